@@ -9,6 +9,8 @@ mod lists;
 mod memory;
 mod sets;
 mod steps;
+#[cfg(test)]
+mod tests;
 mod types;
 
 pub use interval::Interval;
