@@ -1,0 +1,52 @@
+ghost use Rattle.std.specs.Prelude.{◌++◌};
+ghost use Rattle.ocra_tool.specs.Lines.{Says, no_memory_line, read_fault_line, usage_line, write_fault_line};
+
+use oss_io::{Failed, Sink, write_all};
+
+const USAGE: &[u8] =
+    b"usage: ocra_tool check|tree|certify FILE [--depth 1..32] [--width 1..3] | print FILE | replay FILE LASSO | recheck FILE CERT | sample N\n";
+
+/// Says that the words mean no command.
+pub fn say_usage<E: Sink>(err: &mut E)
+    ensures { Says (E.taken err.old) (E.taken err.new) (E.faults err.old) (E.faults err.new) usage_line }
+{
+    say(err, USAGE);
+}
+
+/// Says that a file could not be read.
+pub fn say_read_fault<E: Sink>(err: &mut E, file: &str)
+    ensures { Says (E.taken err.old) (E.taken err.new) (E.faults err.old) (E.faults err.new) (read_fault_line file.now) }
+{
+    say_two(err, file.as_bytes(), b": read fault\n");
+}
+
+/// Says that the output could not be written.
+pub fn say_write_fault<E: Sink>(err: &mut E)
+    ensures { Says (E.taken err.old) (E.taken err.new) (E.faults err.old) (E.faults err.new) write_fault_line }
+{
+    say(err, b"write fault\n");
+}
+
+/// Says that memory was short.
+pub fn say_no_memory<E: Sink>(err: &mut E)
+    ensures { Says (E.taken err.old) (E.taken err.new) (E.faults err.old) (E.faults err.new) no_memory_line }
+{
+    say(err, b"want of memory\n");
+}
+
+/// Writes a line. That a sink for such lines fails is told nowhere.
+pub fn say<E: Sink>(err: &mut E, line: &[u8])
+    ensures { Says (E.taken err.old) (E.taken err.new) (E.faults err.old) (E.faults err.new) line.now }
+{
+    let _ = write_all(err, line);
+}
+
+/// Writes a line that stands in two parts.
+fn say_two<E: Sink>(err: &mut E, first: &[u8], second: &[u8])
+    ensures { Says (E.taken err.old) (E.taken err.new) (E.faults err.old) (E.faults err.new) (first.now ++ second.now) }
+{
+    match write_all(err, first) {
+        Ok(()) => say(err, second),
+        Err(Failed) => {}
+    }
+}

@@ -1,0 +1,35 @@
+//! Checks contract refinement of a system architecture, as the words of its command line ask.
+//!
+//! `run` is all of the program: what stands around it hands in the words, the files of the system,
+//! the standard output and the standard error.
+#![tactic(auto)]
+
+mod arguments;
+mod check;
+mod empty_system;
+mod lines;
+mod outcome;
+mod report;
+#[cfg(test)]
+mod tests;
+mod top;
+mod words;
+
+use oss_io::{ErrSink, FileShelf, StdSink};
+use port_types::NoMemory;
+use std::process::ExitCode;
+
+/// Where the words can't be had for want of memory, the status is that of want of memory.
+fn main(rt: HostRuntime) -> ExitCode {
+    let status = match arguments::words(rt.alloc(), &rt) {
+        Ok(words) => top::run(
+            rt.alloc(),
+            words.as_slice(),
+            &mut FileShelf::new(&rt),
+            &mut StdSink::new(&rt),
+            &mut ErrSink::new(&rt),
+        ),
+        Err(NoMemory) => 7,
+    };
+    ExitCode::from(status)
+}

@@ -1,0 +1,13 @@
+use Rattle.std.proofs.Common.{◌≡◌, ◌≤◌, ◌+◌, not, take, count_by}
+use Rattle.std.specs.List.{suffix_len}
+use Rattle.oss_base.specs.Places.{is_line_feed}
+use Rattle.oss_base.proofs.place.place_of.Given as goal
+
+-- the place after the bytes so far
+abbrev pub invariant-loop-byte : goal.invariant-loop-byte
+invariant-loop-byte l = record {
+  line : l.line ≡ 1 + count_by is_line_feed (take l.byte-index l.byte-items);
+  column : l.column ≡ 1 + suffix_len (λ byte. not (is_line_feed byte)) (take l.byte-index l.byte-items);
+  low : l.line ≤ 1 + l.byte-index;
+  left : l.column ≤ 1 + l.byte-index;
+}
