@@ -70,7 +70,7 @@ fn a_file_is_read_whole_or_not_at_all(rt: HostRuntime) -> Result<(), Fail> {
         assert_eq!(rt;
             number,
             want,
-            "piece {piece}, {name}, call {failing}, limit {limit}"
+            "piece {piece}, call {failing}, limit {limit}"
         );
         let text = if want == 0 && name == "a" { TEXT } else { b"" };
         assert_eq!(rt; bytes.as_slice(), text);

@@ -1,0 +1,9 @@
+pub mod Stability
+pub mod Derived
+pub mod Periodicity
+pub mod Untils
+pub mod RowPlaces
+pub mod RowTruth
+pub mod RowSteps
+pub mod RowLoops
+pub mod Rooms

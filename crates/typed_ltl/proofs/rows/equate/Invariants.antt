@@ -1,0 +1,6 @@
+use Rattle.typed_ltl.specs.Rows.{iff_row}
+use Rattle.typed_ltl.proofs.RowSteps.{Filled}
+use Rattle.typed_ltl.proofs.rows.equate.Given as goal
+
+abbrev pub invariant-loop-i : goal.invariant-loop-i
+invariant-loop-i l = Filled (iff_row l.fn.cells l.others) l.fn.cells l.cells l.i
