@@ -1,5 +1,3 @@
-use Rattle.std.proofs.Common.{◌≡◌, ℕ, ◌≤◌}
-use Rattle.typed_ltl.specs.Formulas as form
 use Rattle.typed_ltl.specs.Laws.{FalseIsCore, OrIsCore, ImpliesIsCore, IffIsCore, FutureIsCore, AlwaysIsCore, NeverIsCore, ReleasesIsCore}
 use Rattle.typed_ltl.proofs.Stability.{stable}
 

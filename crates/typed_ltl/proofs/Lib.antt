@@ -7,3 +7,4 @@ pub mod RowTruth
 pub mod RowSteps
 pub mod RowLoops
 pub mod Rooms
+pub mod Meanings

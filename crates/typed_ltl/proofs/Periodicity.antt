@@ -1,4 +1,4 @@
-use Rattle.std.proofs.Common.{◌≡◌, ℕ, suc, ◌+◌, ◌-◌, ◌%◌, ◌<◌, ◌≤◌, ◌↔◌, Bool, true, false, cond, ltb, List, [], length, get_or, refl, sym, ap, ◌∙◌, subst, arith}
+use Rattle.std.proofs.Common.{◌≡◌, ℕ, ◌+◌, ◌-◌, ◌%◌, ◌<◌, ◌≤◌, ◌↔◌, true, ltb, [], length, get_or, sym, ap, ◌∙◌, subst, arith}
 use Rattle.std.proofs.Math.Nat.{add-mod_right, mod-eq_of_lt}
 use Rattle.std.proofs.lemmas.Bool.{cond-true, cond-false, cases_lt, lt-ltb, le-ltb}
 use Rattle.std.proofs.Math.Logic.{inl, inr}
@@ -7,7 +7,7 @@ use Rattle.typed_ltl.specs.Formulas.{Ltl, Test}
 use Rattle.typed_ltl.specs.Traces.{Assignment, Trace, assignment, place, word}
 use Rattle.typed_ltl.specs.Truth.{Holds, Reaches, test}
 use Rattle.typed_ltl.specs.Laws.{Recurs, TruthRecurs, WordsRecur, LassoTruthRecurs}
-use Rattle.typed_ltl.proofs.Derived.{false_is_core, or_is_core, implies_is_core, iff_is_core, future_is_core, always_is_core, never_is_core, releases_is_core}
+use Rattle.typed_ltl.proofs.Derived.{or_is_core, implies_is_core, future_is_core, always_is_core, never_is_core, releases_is_core}
 
 -- P agrees at i and at i + p, for i from l on
 abbrev pub Repeats : (ℕ → Type 0) → ℕ → ℕ → Type 0

@@ -1,4 +1,4 @@
-use Rattle.std.proofs.Common.{◌≡◌, ℕ, suc, ◌+◌, ◌-◌, ◌<◌, ◌≤◌, Bool, false, not, ◌&&◌, ◌||◌, List, [], length, get_or, set, refl, sym, ap, ◌∙◌, subst, arith}
+use Rattle.std.proofs.Common.{◌≡◌, ℕ, suc, ◌+◌, ◌-◌, ◌<◌, ◌≤◌, Bool, false, not, ◌&&◌, ◌||◌, List, [], length, get_or, set, sym, ap, ◌∙◌, subst, arith}
 use Rattle.std.proofs.lemmas.List.{get_or_past, get_or_default}
 use Rattle.port_types.specs.declared.types.Value.{Value}
 use Rattle.typed_ltl.specs.Formulas.{Test}
@@ -7,7 +7,7 @@ use Rattle.typed_ltl.specs.Truth.{test, TestFits}
 use Rattle.typed_ltl.specs.Rows.{test_row, not_row, and_row, iff_row, then_row, until_back}
 use Rattle.typed_ltl.proofs.Periodicity.{place_before}
 use Rattle.typed_ltl.proofs.RowPlaces.{length_not, at_not, length_and, at_and, length_iff, at_iff, length_shifted, at_shifted, length_until, at_until, length_test, test_on_word}
-use Rattle.typed_ltl.proofs.RowSteps.{Filled, Filled-more, Filled-end, Settled, Settled-start, Settled-more, Settled-end}
+use Rattle.typed_ltl.proofs.RowSteps.{Filled, Filled-more, Filled-end, Settled, Settled-more, Settled-end}
 
 -- One step and the end of each loop over rows.
 

@@ -1,16 +1,16 @@
-use Rattle.std.proofs.Common.{◌≡◌, ℕ, zero, suc, ◌+◌, ◌-◌, ◌<◌, ◌≤◌, ◌↔◌, Bool, true, false, not, ◌&&◌, ◌||◌, ◌⊎◌, List, [], ◌∷◌, length, get_or, replicate, refl, sym, ap, ◌∙◌, subst, arith}
+use Rattle.std.proofs.Common.{◌≡◌, ℕ, suc, ◌+◌, ◌-◌, ◌<◌, ◌↔◌, Bool, true, false, not, ◌&&◌, ◌||◌, ◌⊎◌, List, [], length, get_or, replicate, refl, sym, ap, ◌∙◌, subst, arith}
 use Rattle.std.proofs.lemmas.List.{length-replicate, get_or-replicate, get_or_past, get_or_default}
-use Rattle.std.proofs.lemmas.Bool.{or_left, or_right, and_from, and_parts, or_cases, cases_Bool, cases_lt, not-true, not_from_false, false_from_ne_true, true_from_ne_false}
+use Rattle.std.proofs.lemmas.Bool.{and_from, and_parts, cases_lt, not-true, not_from_false, false_from_ne_true}
 use Rattle.std.proofs.Math.Logic.{inl, inr}
 use Rattle.port_types.specs.declared.types.Value.{Value}
 use Rattle.typed_ltl.specs.Formulas as form
 use Rattle.typed_ltl.specs.Formulas.{Ltl, Test}
-use Rattle.typed_ltl.specs.Traces.{assignment, place, word}
+use Rattle.typed_ltl.specs.Traces.{word}
 use Rattle.typed_ltl.specs.Truth.{Holds, Reaches, test}
-use Rattle.typed_ltl.specs.Rows.{test_row, not_row, and_row, iff_row, shifted, until_back, then_row, until_row, future_row, row}
+use Rattle.typed_ltl.specs.Rows.{test_row, not_row, and_row, iff_row, until_back, then_row, until_row, future_row, row}
 use Rattle.typed_ltl.specs.Laws.{RowsAreRight}
-use Rattle.typed_ltl.proofs.Derived.{false_is_core, or_is_core, implies_is_core, iff_is_core, future_is_core, always_is_core, never_is_core, releases_is_core}
-use Rattle.typed_ltl.proofs.Periodicity.{Repeats, until_repeats, not_repeats, truth_repeats, words_recur, place_before, place_end}
+use Rattle.typed_ltl.proofs.Derived.{or_is_core, implies_is_core, future_is_core, always_is_core, never_is_core, releases_is_core}
+use Rattle.typed_ltl.proofs.Periodicity.{Repeats, until_repeats, truth_repeats, words_recur}
 use Rattle.typed_ltl.proofs.RowPlaces.{length_not, at_not, length_and, at_and, length_iff, at_iff, length_shifted, at_shifted, length_until, at_until, length_test, test_on_word}
 use Rattle.typed_ltl.proofs.Untils.{Table, Backwards, until_told, until_tells}
 

@@ -1,8 +1,7 @@
-use Rattle.std.proofs.Common.{◌≡◌, ℕ, ◌+◌, ◌<◌, ◌≤◌, Bool, true, false, refl}
+use Rattle.std.proofs.Common.{◌≡◌, ◌+◌, Bool, true, false, refl}
 use Rattle.typed_ltl.specs.Formulas as form
 use Rattle.typed_ltl.specs.Formulas.{Ltl}
-use Rattle.typed_ltl.specs.Traces.{Trace}
-use Rattle.typed_ltl.specs.Truth.{Holds, test}
+use Rattle.typed_ltl.specs.Truth.{test}
 use Rattle.typed_ltl.specs.Laws.{TruthIsStable}
 
 -- "P equals its double negation"

@@ -1,5 +1,5 @@
-use Rattle.std.proofs.Common.{◌≡◌, ℕ, zero, suc, ◌+◌, ◌-◌, ◌<◌, ◌≤◌, Bool, true, false, ◌&&◌, ◌||◌, refl, sym, ap, ◌∙◌, subst, arith}
-use Rattle.std.proofs.lemmas.Bool.{or_left, or_right, and_from, and_parts, or_cases, false_from_ne_true, cases_Bool, cases_lt, true_from_ne_false}
+use Rattle.std.proofs.Common.{◌≡◌, ℕ, zero, suc, ◌+◌, ◌-◌, ◌<◌, ◌≤◌, Bool, true, false, ◌&&◌, ◌||◌, sym, ap, ◌∙◌, subst, arith}
+use Rattle.std.proofs.lemmas.Bool.{or_left, or_right, and_from, and_parts, or_cases, cases_lt, true_from_ne_false}
 use Rattle.std.proofs.Math.Logic.{inl, inr}
 use Rattle.typed_ltl.specs.Truth.{Throughout, Reaches}
 use Rattle.typed_ltl.proofs.Periodicity.{Repeats}

@@ -1,6 +1,9 @@
-use Rattle.std.specs.Prelude.{ℕ, ◌+◌, ◌-◌, ◌%◌, Bool, true, false, List, [], length, nat_lt, if◌then◌else◌, slice_index_or}
+use Rattle.std.specs.Prelude.{ℕ, ◌+◌, ◌-◌, ◌%◌, ◌<◌, false, List, [], length, nat_lt, if◌then◌else◌, slice_index_or}
+use Rattle.port_types.specs.declared.types.PortType.{PortType}
+use Rattle.port_types.specs.declared.types.PortType.TheVariants as kind
 use Rattle.port_types.specs.declared.types.Value.{Value}
 use Rattle.port_types.specs.declared.types.Value.TheVariants as value
+use Rattle.port_types.specs.Types.{IsOfType}
 
 -- A valuation as a function: the value of each port, by port number.
 abbrev pub Assignment : Type 0
@@ -25,3 +28,7 @@ place n loop_at i = if nat_lt i n then i else loop_at + (i - loop_at) % (n - loo
 -- without BDDs, 1999: a path with a loop back from its last state).
 abbrev pub word : List (List Value) → ℕ → Trace
 word states loop_at i = assignment (slice_index_or states (place (length states) loop_at i) [])
+
+-- A trace over ports: at each position each port has a value of its type.
+abbrev pub IsOver : List PortType → Trace → Type 0
+IsOver ports w = (i p : ℕ) → p < length ports → IsOfType (slice_index_or ports p kind.Bool) (w i p)

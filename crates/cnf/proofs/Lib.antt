@@ -1,0 +1,4 @@
+pub mod ModelLaws
+pub mod GateLaws
+pub mod NumberLaws
+pub mod GateSteps
