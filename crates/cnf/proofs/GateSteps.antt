@@ -6,9 +6,9 @@ use Rattle.std.proofs.lemmas.List.Elements.{All-nil, All-cons, All-weaker}
 use Rattle.cnf.specs.declared.lit.Lit.{Lit}
 use Rattle.cnf.specs.Clauses.{opposite, values, lit_holds, clauses_hold, IsModel, Means, Grows}
 use Rattle.std.proofs.Math.Seq.{drop-cons}
-use Rattle.std.specs.Prelude.{ℤ, ◌+ℤ◌, int_le}
-use Rattle.cnf.specs.Gates.{literal, xor, majority, signed, turned, and_clauses, xor_clauses, majority_clauses, greater_on, greater_clauses, le_clauses, le_literal, sum_on, sum_clauses, sum_bits_on, sum_bits}
-use Rattle.cnf.proofs.ModelLaws.{clauses_hold-append, clauses_hold-take, lit_holds-opposite, Grows_trans, Grows_refl, Grows-var, Grows-defined, Grows-all}
+use Rattle.std.specs.Prelude.{◌+ℤ◌, int_le}
+use Rattle.cnf.specs.Gates.{literal, xor, majority, signed, turned, and_clauses, xor_clauses, majority_clauses, greater_on, le_clauses, sum_on, sum_clauses, sum_bits_on, sum_bits}
+use Rattle.cnf.proofs.ModelLaws.{clauses_hold-append, clauses_hold-take, lit_holds-opposite, Grows_refl, Grows-defined, Grows-all}
 use Rattle.cnf.proofs.GateLaws.{and_means, and_fits, xor_means, xor_fits, majority_means, majority_fits}
 use Rattle.cnf.proofs.NumberLaws.{greater_compares, at_least, sum_adds}
 

@@ -1,6 +1,4 @@
-use Rattle.std.proofs.Common.{◌≡◌, ◌+◌, ◌*◌, ◌<◌, ◌≤◌, ◌∙◌, sym, ap, arith, length}
-use Rattle.cnf.specs.declared.lit.Lit.{Lit}
-use Rattle.cnf.specs.Gates.{literal}
+use Rattle.std.proofs.Common.{◌≡◌, ◌+◌, ◌*◌, ◌<◌, ◌≤◌, ◌∙◌, ap, arith, length}
 use Rattle.cnf.proofs.ModelLaws.{Grows_trans}
 use Rattle.cnf.proofs.GateSteps.{All_later, no_lit, lit_below, known_bits, first_of, place_of, sum_begins, sum_goes_on, sum_bits_begin, sum_bits_go_on, sum_ends, sum_bits_end, sum_means, length-sum_bits}
 use Rattle.cnf.proofs.arithmetic.adder.Goals as goal
