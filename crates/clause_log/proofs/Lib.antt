@@ -1,4 +1,0 @@
-pub mod Lits
-pub mod SetLaws
-pub mod StepLaws
-pub mod Soundness

@@ -1,3 +1,0 @@
-pub mod Derivations
-pub mod Marks
-pub mod Members
