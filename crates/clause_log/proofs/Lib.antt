@@ -1,0 +1,4 @@
+pub mod Lits
+pub mod SetLaws
+pub mod StepLaws
+pub mod Soundness

@@ -1,0 +1,45 @@
+-- A set of literals as two marks for each variable.
+
+use Rattle.std.specs.Prelude.{◌≡◌, ◌≢◌, ℕ, ◌+◌, Contains, Bool, true, false, List, ◌++◌, map, slice_index_or, if◌then◌else◌}
+use Rattle.cnf.specs.declared.lit.Lit.{Lit}
+use Rattle.clause_log.specs.declared.chain.Chain.{Chain}
+use Rattle.clause_log.specs.declared.lit_set.Signs.{Signs}
+
+-- the mark of a sign
+abbrev pub sign_mark : Signs → Bool → Bool
+sign_mark signs true = signs.positive
+sign_mark signs false = signs.negative
+
+-- the marks with that of one sign changed
+abbrev pub with_mark : Signs → Bool → Bool → Signs
+with_mark signs true mark = record { positive = mark; negative = signs.negative }
+with_mark signs false mark = record { positive = signs.positive; negative = mark }
+
+abbrev pub no_marks : Signs
+no_marks = record { positive = false; negative = false }
+
+-- whether a literal is in the set
+abbrev pub marked : List Signs → Lit → Bool
+marked marks lit = sign_mark (slice_index_or marks lit.var no_marks) lit.positive
+
+-- 1 for true and 0 for false
+abbrev pub count : Bool → ℕ
+count b = if b then 1 else 0
+
+-- how many of the two marks are set
+abbrev pub marks_set : Signs → ℕ
+marks_set signs = count signs.positive + count signs.negative
+
+-- the clauses by their numbers
+abbrev pub numbered : List (List Lit) → List Chain → List (List Lit)
+numbered cnf log = cnf ++ map (λ chain. chain.clause) log
+
+-- one literal got a mark, and all others have theirs
+pub record Put (old : List Signs) (lit : Lit) (mark : Bool) (new : List Signs) : Type 0 where
+  pub here : marked new lit ≡ mark
+  pub others : (other : Lit) → other ≢ lit → marked new other ≡ marked old other
+
+-- all of the literals got a mark, and all others have theirs
+pub record Puts (old : List Signs) (lits : List Lit) (mark : Bool) (new : List Signs) : Type 0 where
+  pub here : (lit : Lit) → Contains lits lit → marked new lit ≡ mark
+  pub others : (lit : Lit) → (Contains lits lit → ⊥) → marked new lit ≡ marked old lit
