@@ -1,7 +1,7 @@
 -- marks: what a change of one does, how many are set, and the list of the members
-use Rattle.std.proofs.Common.{◌≡◌, ◌≢◌, ◌<◌, ◌≤◌, ◌+◌, ◌-◌, ◌*◌, ◌⊎◌, ℕ, zero, suc, Bool, true, false, not, cond, List, [], ◌∷◌, ◌++◌, length, take, get_or, set, refl, sym, ◌∙◌, ap, subst, inl, inr, arith}
-use Rattle.std.specs.List.{Contains, All, sum_by}
-use Rattle.std.proofs.lemmas.Bool.{false≢true, true≢false, cases_lt, cases_eq, cases_Bool, false_from_ne_true}
+use Rattle.std.proofs.Common.{◌≡◌, ◌<◌, ◌≤◌, ◌+◌, ◌*◌, ℕ, zero, suc, Bool, true, false, cond, List, [], ◌∷◌, ◌++◌, length, get_or, set, refl, sym, ◌∙◌, ap, subst, inl, inr, arith}
+use Rattle.std.specs.List.{Contains, sum_by}
+use Rattle.std.proofs.lemmas.Bool.{false≢true, cases_lt, cases_eq}
 use Rattle.std.proofs.lemmas.List.{get_or_past, get_or-set_same, get_or-set_other}
 use Rattle.std.proofs.lemmas.List.Sums.{sum_by-set, sum_by-cons}
 use Rattle.std.proofs.lemmas.List.Elements.{Contains-append_left, Contains-append_right, Contains-append_cases}
@@ -9,7 +9,7 @@ use Rattle.cnf.specs.declared.lit.Lit.{Lit}
 use Rattle.clause_log.specs.declared.lit_set.Signs.{Signs}
 use Rattle.clause_log.specs.Marks.{sign_mark, with_mark, no_marks, marked, count, marks_set}
 use Rattle.clause_log.specs.Members.{if_marked, members_below, members}
-use Rattle.clause_log.proofs.Lits.{lit_same, same_var, no_member, has_head, has_cases}
+use Rattle.clause_log.proofs.Lits.{lit_same, no_member, has_head, has_cases}
 
 -- what is marked has its variable below the bound
 none_marked : (sign : Bool) → sign_mark no_marks sign ≡ false

@@ -1,18 +1,18 @@
 -- what is derived holds in each model
-use Rattle.std.proofs.Common.{◌≡◌, ◌≢◌, ◌<◌, ◌≤◌, ◌+◌, ◌⊎◌, ℕ, zero, suc, Bool, true, false, not, ◌&&◌, cond, List, [], ◌∷◌, ◌++◌, length, map, take, get_or, refl, sym, ◌∙◌, ap, subst, inl, inr, arith, add-one, append_assoc}
+use Rattle.std.proofs.Common.{◌≡◌, ◌<◌, ◌≤◌, ◌+◌, ℕ, zero, suc, Bool, true, false, not, cond, List, [], ◌∷◌, ◌++◌, length, map, take, get_or, refl, sym, ◌∙◌, ap, subst, inl, inr, arith, add-one, append_assoc}
 use Rattle.std.specs.List.{Contains, All}
 use Rattle.std.proofs.lemmas.List.Elements.{All-push}
-use Rattle.std.proofs.lemmas.Bool.{false≢true, true≢false, or_cases, and_parts, and_from, or_left, or_right}
+use Rattle.std.proofs.lemmas.Bool.{false≢true, or_cases, and_parts, and_from}
 use Rattle.std.proofs.lemmas.List.{take_more}
 use Rattle.std.proofs.lemmas.List.Folds.{list_any_at, list_all-append}
 use Rattle.std.proofs.Math.Seq.{get_or-append_seam}
-use Rattle.std.proofs.Math.ListN.{length-append, get_or-append}
+use Rattle.std.proofs.Math.ListN.{length-append}
 use Rattle.cnf.specs.declared.lit.Lit.{Lit}
-use Rattle.cnf.specs.Clauses.{opposite, lit_holds, clause_holds, clauses_hold, IsModel, HasNoModel}
+use Rattle.cnf.specs.Clauses.{opposite, lit_holds, clause_holds, clauses_hold, HasNoModel}
 use Rattle.clause_log.specs.declared.chain.Pivot.{Pivot}
 use Rattle.clause_log.specs.declared.chain.Chain.{Chain}
-use Rattle.clause_log.specs.Derivations.{SameLits, Resolves, Leads, Follows, clauses_before, Derives}
-use Rattle.clause_log.proofs.Lits.{lit_cases, has_head, has_tail, no_member}
+use Rattle.clause_log.specs.Derivations.{Resolves, Leads, Follows, clauses_before, Derives}
+use Rattle.clause_log.proofs.Lits.{lit_cases, has_head, has_tail}
 
 some_holds : (model : List Bool) (clause : List Lit) → clause_holds model clause ≡ true → (lit : Lit) × Contains clause lit × (lit_holds model lit ≡ true)
 some_holds model [] h = absurd (false≢true h)

@@ -1,19 +1,19 @@
 -- what marks that were changed say of the literals that they stand for
-use Rattle.std.proofs.Common.{◌≡◌, ◌≢◌, ◌<◌, ◌≤◌, ◌+◌, ◌-◌, ◌⊎◌, ◌↔◌, ℕ, zero, suc, Bool, true, false, List, [], ◌∷◌, ◌++◌, length, map, take, drop, get_or, refl, sym, ◌∙◌, ap, subst, inl, inr, arith, add-one}
+use Rattle.std.proofs.Common.{◌≡◌, ◌≢◌, ◌<◌, ◌≤◌, ◌+◌, ◌⊎◌, ◌↔◌, ℕ, zero, suc, Bool, true, false, List, [], ◌∷◌, length, take, drop, get_or, refl, sym, ◌∙◌, ap, subst, inl, inr, arith, add-one}
 use Rattle.std.specs.List.{Contains, All}
-use Rattle.std.proofs.lemmas.Bool.{false≢true, true≢false, cases_Bool, false_from_ne_true, cases_lt}
+use Rattle.std.proofs.lemmas.Bool.{false≢true, false_from_ne_true, cases_lt}
 use Rattle.std.proofs.lemmas.List.{take_all, get_or_default}
 use Rattle.std.proofs.Math.Seq.{drop-cons}
-use Rattle.std.proofs.lemmas.List.Elements.{All-contains, All-append, Contains-get_or}
+use Rattle.std.proofs.lemmas.List.Elements.{All-contains, Contains-get_or}
 use Rattle.cnf.specs.declared.lit.Lit.{Lit}
 use Rattle.cnf.specs.Clauses.{opposite}
 use Rattle.clause_log.specs.declared.lit_set.Signs.{Signs}
 use Rattle.clause_log.specs.declared.chain.Pivot.{Pivot}
 use Rattle.clause_log.specs.declared.chain.Chain.{Chain}
-use Rattle.clause_log.specs.Marks.{marked, numbered, Put, Puts}
+use Rattle.clause_log.specs.Marks.{marked, Put, Puts}
 use Rattle.clause_log.specs.Members.{members}
 use Rattle.clause_log.specs.Derivations.{SameLits, Resolves, Leads, Follows, clauses_before}
-use Rattle.clause_log.proofs.Lits.{lit_cases, taken_cases, taken_old, taken_new, no_member, same_var, opposite-opposite, opposite_differs, has_or_not, no_lit}
+use Rattle.clause_log.proofs.Lits.{lit_cases, taken_cases, taken_old, taken_new, no_member, same_var, opposite-opposite, opposite_differs, has_or_not}
 use Rattle.clause_log.proofs.SetLaws.{marked_known, marked_member, member_marked}
 
 -- the four changes of a resolution: the pivot goes, the clause comes, and the opposite of the pivot

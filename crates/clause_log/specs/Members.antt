@@ -1,6 +1,6 @@
 -- The members of a set of literals that marks tell, as a list.
 
-use Rattle.std.specs.Prelude.{ℕ, zero, suc, Bool, true, false, List, [], ◌∷◌, ◌++◌, length, if◌then◌else◌}
+use Rattle.std.specs.Prelude.{ℕ, zero, suc, true, false, List, [], ◌∷◌, ◌++◌, length, if◌then◌else◌}
 use Rattle.cnf.specs.declared.lit.Lit.{Lit}
 use Rattle.clause_log.specs.declared.lit_set.Signs.{Signs}
 use Rattle.clause_log.specs.Marks.{marked}

@@ -1,4 +1,4 @@
-use Rattle.std.proofs.Common.{◌∙◌, ◌<◌, ℕ, length, take, get_or, refl, subst}
+use Rattle.std.proofs.Common.{◌∙◌, ◌<◌, ℕ, length, get_or, refl, subst}
 use Rattle.std.specs.List.{All}
 use Rattle.clause_log.specs.declared.chain.Chain.{Chain}
 use Rattle.clause_log.specs.Derivations.{Follows, clauses_before}

@@ -1,6 +1,5 @@
 use Rattle.std.proofs.Common.{◌∙◌, sym, ap, List}
 use Rattle.std.proofs.lemmas.Bool.{eqb-true, eq-eqb}
-use Rattle.cnf.specs.declared.lit.Lit.{Lit}
 use Rattle.clause_log.specs.declared.lit_set.Signs.{Signs}
 use Rattle.clause_log.specs.Marks.{marked}
 use Rattle.clause_log.proofs.SetLaws.{none_if_zero, zero_if_none}
