@@ -1,0 +1,134 @@
+-- The walk back along the trail from a clause whose literals are all false.
+use Rattle.std.proofs.Common.{◌≡◌, ◌<◌, ◌≤◌, ◌+◌, ℕ, true, false, List, [], ◌∷◌, ◌++◌, length, take, get_or, Contains, Option, Some, None, refl, sym, ap, ◌∙◌, subst, inl, inr, arith}
+use Rattle.std.specs.Prelude.{IfSome}
+use Rattle.std.specs.Ordering.{ord_max, nat_cmp}
+use Rattle.std.proofs.lemmas.Bool.Decides.{nat_tests}
+use Rattle.clause_log.specs.Derivations.{Resolves}
+use Rattle.sat_core.specs.declared.chain.Link.{Link}
+use Rattle.cnf.specs.declared.lit.Lit.{Lit}
+use Rattle.cnf.specs.Clauses.{opposite}
+use Rattle.sat_core.specs.declared.source.Source.{Source}
+use Rattle.sat_core.specs.declared.trail.Step.{Step}
+use Rattle.sat_core.specs.Search.{Known, known_from, Names, clause_of, Derived, MadeTrue, AllFalse, Forces, Justifies, Justified, IsTrail, lit_at, step_at, opens_level}
+use Rattle.sat_core.specs.Lessons.{OthersFalse, Agrees, Turns}
+use Rattle.sat_core.proofs.Trails.{opposite-opposite, MadeTrue-later, one_place, free_from_none, free_not_true, MadeTrue-within}
+use Rattle.sat_core.proofs.Chains.{before_or_at, named_without, Derived-push, Derived-start}
+use Rattle.sat_core.proofs.Members.{more_cases, no_lits}
+
+abbrev pub link_of : ℕ → Source → Link
+link_of var source = record { var = var; source = source }
+
+some_same : (a b : ℕ) → Some a ≡ Some b → a ≡ b
+some_same a b e = cc
+
+module _ (steps : List Step) (places : List (Option ℕ)) (trail : IsTrail steps places) where
+  -- the place of a variable is where its literal was made false
+  pub false_at : (lit : Lit) (p : ℕ) → get_or places (lit.var) None ≡ Some p → MadeTrue steps (length steps) (opposite lit) → (p < length steps) × (lit_at steps p ≡ opposite lit)
+  false_at lit p at t =
+      let var : (lit_at steps t.0).var ≡ lit.var = ap (λ (l : Lit). l.var) t.2 in
+      let e : p ≡ t.0 = some_same p t.0 (sym at ∙ ap (λ v. get_or places v None) (sym var) ∙ trail.placed t.0 t.1) in
+      (omega (arith, t.1), ap (λ q. lit_at steps q) e ∙ t.2)
+
+  pub false_has_place : (lit : Lit) → get_or places (lit.var) None ≡ None → MadeTrue steps (length steps) (opposite lit) → ⊥
+  false_has_place lit none t = free_not_true steps (opposite lit) (free_from_none steps places trail (lit.var) none) t
+
+  pub false_within : (lit : Lit) → MadeTrue steps (length steps) (opposite lit) → lit.var < length places
+  false_within lit t = MadeTrue-within steps places trail (opposite lit) t
+
+  -- a literal that was made false last stands last
+  pub others_least : (n p : ℕ) (x but : Lit) (clause : List Lit) → OthersFalse steps n clause but → n ≤ length steps → Contains clause x → (x ≡ but → ⊥) → p < length steps → lit_at steps p ≡ opposite x → p + 1 ≤ n
+  others_least n p x but clause others le has other h e =
+      elim (others x has) [
+        | inl same ↦ absurd (other same)
+        | inr t ↦
+            let at : t.0 ≡ p = one_place steps places trail t.0 p (omega (arith, t.1)) h (ap (λ (l : Lit). l.var) (t.2 ∙ sym e)) in
+            omega (arith, t.1, at)
+      ]
+
+module _ (steps : List Step) (xs : List Lit) (i : ℕ) (x : Lit) (h : i < length xs) (e : x ≡ get_or xs i x) where
+  pub others-skip : (n : ℕ) (but : Lit) → x ≡ but → OthersFalse steps n (take i xs) but → OthersFalse steps n (take (i + 1) xs) but
+  others-skip n but same o m c = elim (more_cases xs i x h e m c) [ inl old ↦ o m old | inr new ↦ inl (sym new ∙ same) ]
+
+  pub others-more : (n later p : ℕ) (but : Lit) → n ≤ later → p < later → lit_at steps p ≡ opposite x → OthersFalse steps n (take i xs) but → OthersFalse steps later (take (i + 1) xs) but
+  others-more n later p but le lt at o m c = elim (more_cases xs i x h e m c) [
+    | inl old ↦ elim (o m old) [ inl s ↦ inl s | inr t ↦ inr (MadeTrue-later steps n later (opposite m) le t) ]
+    | inr new ↦ inr (p, lt, at ∙ ap opposite new)
+  ]
+
+pub others-start : (steps : List Step) (xs : List Lit) (but : Lit) → OthersFalse steps 0 (take 0 xs) but
+others-start steps xs but m c = absurd (no_lits m c)
+
+-- literals false before the place after: all but the one at the place are false before it
+pub others_before : (steps : List Step) (at : ℕ) (clause : List Lit) → AllFalse steps (at + 1) clause → OthersFalse steps at clause (opposite (lit_at steps at))
+others_before steps at clause all m c = elim (before_or_at steps (at + 1) at (opposite m) refl (all m c)) [
+  | inl before ↦ inr before
+  | inr here ↦ inl (sym (opposite-opposite m) ∙ ap opposite (sym here))
+]
+
+pub AllFalse-later : (steps : List Step) (n m : ℕ) (clause : List Lit) → n ≤ m → AllFalse steps n clause → AllFalse steps m clause
+AllFalse-later steps n m clause le all lit c = MadeTrue-later steps n m (opposite lit) le (all lit c)
+
+-- where an opening stands between the others and the literal, the clause turns the trail there
+pub turns_at : (steps : List Step) (places : List (Option ℕ)) (clause : List Lit) (at keep n : ℕ) → IsTrail steps places → at < length steps → Contains clause (opposite (lit_at steps at)) → OthersFalse steps n clause (opposite (lit_at steps at)) → n ≤ keep → keep < at + 1 → opens_level (step_at steps keep).source ≡ true → Turns steps clause (opposite (lit_at steps at)) keep
+turns_at steps places clause at keep n trail h has others le lt opens = record {
+  within = omega arith;
+  opens = opens;
+  forces = record {
+    has = has;
+    others = λ m c. elim (others m c) [ inl s ↦ inl s | inr t ↦ inr (MadeTrue-later steps n keep (opposite m) le t) ];
+  };
+  free = λ p lt2 e.
+      let same : p ≡ at = one_place steps places trail p at (omega arith) h e in
+      absurd (omega arith);
+}
+
+-- the source of a step that opens no level names the same clause without assumptions
+pub agrees_without : (added learnt : List (List Lit)) (assumed : List Lit) (steps : List Step) (place : ℕ) (lit : Lit) (source : Option Source) → opens_level source ≡ false → Justifies (known_from added learnt assumed) steps place lit source → Agrees (known_from added learnt []) (known_from added learnt assumed) source
+agrees_without added learnt assumed steps place lit None o j = tt
+agrees_without added learnt assumed steps place lit (Some source) o j = named_without added learnt assumed source o j.0
+
+-- a source names the same clause as itself
+pub agrees_self : (k : Known) (steps : List Step) (place : ℕ) (lit : Lit) (source : Option Source) → Justifies k steps place lit source → Agrees k k source
+agrees_self k steps place lit None j = tt
+agrees_self k steps place lit (Some source) j = (j.0, refl)
+
+-- a step that opens no level was forced
+pub forced_of : (source : Option Source) → opens_level source ≡ false → source ≡ None → ⊥
+forced_of None o e = cc
+forced_of (Some s) o e = cc
+
+pub turning_some : (steps : List Step) (places : List (Option ℕ)) (clause : List Lit) (at n : ℕ) (lit : Lit) (found : Option ℕ) → lit ≡ opposite (lit_at steps at) → IsTrail steps places → at < length steps → Contains clause lit → OthersFalse steps n clause lit → IfSome found (λ place. (n ≤ place) × (place < at + 1) × (opens_level (step_at steps place).source ≡ true)) → IfSome found (λ keep. Turns steps clause (opposite (lit_at steps at)) keep)
+turning_some steps places clause at n lit None e trail h has others found = tt
+turning_some steps places clause at n lit (Some keep) e trail h has others found =
+    turns_at steps places clause at keep n trail h (subst (λ (l : Lit). Contains clause l) e has) (subst (λ (l : Lit). OthersFalse steps n clause l) e others) found.0 found.1 found.2
+
+-- what justifies a step with a source
+pub justified_by : (k : Known) (steps : List Step) (at : ℕ) (step : Step) (source : Source) → Justified k steps → at < length steps → step ≡ step_at steps at → step.source ≡ Some source → Names k source × Forces steps at (clause_of k source) step.lit
+justified_by k steps at step source justified h e is =
+    let j = subst (λ (s : Step). Justifies k steps at s.lit s.source) (sym e) (justified at h) in
+    subst (λ (o : Option Source). Justifies k steps at step.lit o) is j
+
+pub derived_step : (k kf : Known) (steps : List Step) (at : ℕ) (step : Step) (source first new_first : Source) (links new_links : List Link) (left after : List Lit) → step ≡ step_at steps at → step.source ≡ Some source → Agrees k kf (step_at steps at).source → Resolves left (clause_of kf source) (opposite step.lit) after → new_first ≡ first → new_links ≡ links ++ link_of step.lit.var source ∷ [] → Derived k first links left → Derived k new_first new_links after
+derived_step k kf steps at step source first new_first links new_links left after e is agrees r f l d =
+    let a = subst (λ (o : Option Source). Agrees k kf o) (ap (λ (s : Step). s.source) (sym e) ∙ is) agrees in
+    let r2 = subst (λ (c : List Lit). Resolves left c (opposite step.lit) after) (sym a.1) r in
+    let pushed = Derived-push k first left after links (link_of step.lit.var source) (opposite step.lit) d a.0 refl r2 in
+    subst (λ (s : Source). Derived k s new_links after) (sym f) (subst (λ (ls : List Link). Derived k first ls after) (sym l) pushed)
+
+pub derived_start : (k : Known) (first new_first : Source) (links : List Link) (lits : List Lit) → lits ≡ clause_of k first → new_first ≡ first → links ≡ [] → Names k first → Derived k new_first links lits
+derived_start k first new_first links lits e f l named =
+    subst (λ (s : Source). Derived k s links lits) (sym f)
+    (subst (λ (ls : List Link). Derived k first ls lits) (sym l)
+    (subst (λ (c : List Lit). Derived k first [] c) (sym e) (Derived-start k first named)))
+
+pub AllFalse-at : (steps : List Step) (n m : ℕ) (clause same : List Lit) → n ≡ m → same ≡ clause → AllFalse steps n clause → AllFalse steps m same
+AllFalse-at steps n m clause same e f all = subst (λ k. AllFalse steps k same) e (subst (λ c. AllFalse steps n c) (sym f) all)
+
+pub max_left : (a b : ℕ) → a ≤ ord_max nat_cmp a b
+max_left a b = grind (arith, nat_tests)
+
+pub max_right : (a b : ℕ) → b ≤ ord_max nat_cmp a b
+max_right a b = grind (arith, nat_tests)
+
+pub max_least : (a b n : ℕ) → a ≤ n → b ≤ n → ord_max nat_cmp a b ≤ n
+max_least a b n h k = grind (arith, nat_tests)

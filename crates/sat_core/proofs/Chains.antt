@@ -1,0 +1,101 @@
+-- Resolution along the trail: what is reached, and that its literals stay false.
+use Rattle.std.proofs.Common.{◌≡◌, ◌≢◌, ◌+◌, ◌⊎◌, ℕ, false, List, [], ◌∷◌, ◌++◌, Contains, Some, refl, sym, ap, ◌∙◌, subst, inl, inr, arith}
+use Rattle.std.proofs.lemmas.Bool.{cases_eq}
+use Rattle.cnf.specs.declared.lit.Lit.{Lit}
+use Rattle.cnf.specs.Clauses.{opposite}
+use Rattle.clause_log.specs.Derivations.{SameLits, Resolves}
+use Rattle.sat_core.specs.declared.source.Source.{Source}
+use Rattle.sat_core.specs.declared.source.Source.TheVariants.{Added, Learnt, Assumed}
+use Rattle.sat_core.specs.declared.trail.Step.{Step}
+use Rattle.sat_core.specs.declared.chain.Link.{Link}
+use Rattle.sat_core.specs.Search.{Known, known_from, Names, clause_of, Reaches, Derived, lit_at, MadeTrue, AllFalse, Forces, opens_level, IsWithout, IsJoined}
+use Rattle.sat_core.proofs.Trails.{opposite-opposite}
+
+pub same-refl : (xs : List Lit) → SameLits xs xs
+same-refl xs = λ lit. (λ h. h, λ h. h)
+
+resolves-same : (xs ys right after : List Lit) (pivot : Lit) → SameLits xs ys → Resolves ys right pivot after → Resolves xs right pivot after
+resolves-same xs ys right after pivot s r = record {
+  on_left = (s pivot).1 r.on_left;
+  on_right = r.on_right;
+  joined = λ lit. (
+    λ h. elim ((r.joined lit).0 h) [ inl l ↦ inl ((s lit).1 l.0, l.1) | inr x ↦ inr x ],
+    λ h. (r.joined lit).1 (elim h [ inl l ↦ inl ((s lit).0 l.0, l.1) | inr x ↦ inr x ]),
+  );
+}
+
+-- one resolution more
+pub Reaches-push : (k : Known) (so_far mid after : List Lit) (links : List Link) (link : Link) (pivot : Lit) → Reaches k so_far links mid → Names k link.source → pivot.var ≡ link.var → Resolves mid (clause_of k link.source) pivot after → Reaches k so_far (links ++ link ∷ []) after
+Reaches-push k so_far mid after [] link pivot h names var r =
+    (names, (pivot, after, var, resolves-same so_far mid (clause_of k link.source) after pivot h r, same-refl after))
+Reaches-push k so_far mid after (l ∷ links) link pivot h names var r =
+    (h.0, (h.1.0, h.1.1, h.1.2, h.1.3, Reaches-push k h.1.1 mid after links link pivot h.1.4 names var r))
+
+pub Derived-push : (k : Known) (first : Source) (mid after : List Lit) (links : List Link) (link : Link) (pivot : Lit) → Derived k first links mid → Names k link.source → pivot.var ≡ link.var → Resolves mid (clause_of k link.source) pivot after → Derived k first (links ++ link ∷ []) after
+Derived-push k first mid after links link pivot d names var r =
+    record { named = d.named; reached = Reaches-push k (clause_of k first) mid after links link pivot d.reached names var r }
+
+pub Derived-start : (k : Known) (first : Source) → Names k first → Derived k first [] (clause_of k first)
+Derived-start k first names = record { named = names; reached = same-refl (clause_of k first) }
+
+-- made true before the place after, or there
+pub before_or_at : (steps : List Step) (n at : ℕ) (lit : Lit) → n ≡ at + 1 → MadeTrue steps n lit → MadeTrue steps at lit ⊎ (lit_at steps at ≡ lit)
+before_or_at steps n at lit e t =
+    elim (cases_eq t.0 at) [
+      | inl here ↦ inr (ap (λ p. lit_at steps p) (sym here) ∙ t.2)
+      | inr other ↦ inl (t.0, omega (arith, t.1, other), t.2)
+    ]
+
+-- a literal of the trail that is not used is passed by
+pub skip_false : (steps : List Step) (n at : ℕ) (clause : List Lit) → n ≡ at + 1 → AllFalse steps n clause → (Contains clause (opposite (lit_at steps at)) → ⊥) → AllFalse steps at clause
+skip_false steps n at clause e false' unused lit has =
+    elim (before_or_at steps n at (opposite lit) e (false' lit has)) [
+      | inl before ↦ before
+      | inr here ↦ absurd (unused (subst (λ l. Contains clause l) (sym (opposite-opposite lit) ∙ ap opposite (sym here)) has))
+    ]
+
+-- a resolution with the reason of the literal leaves literals that were false before it
+pub resolve_false : (steps : List Step) (n at : ℕ) (left clause after : List Lit) (lit : Lit) → n ≡ at + 1 → lit_at steps at ≡ lit → AllFalse steps n left → Forces steps at clause lit → Resolves left clause (opposite lit) after → AllFalse steps at after
+resolve_false steps n at left clause after lit e is false' forces r m has =
+    elim ((r.joined m).0 has) [
+      | inl l ↦ elim (before_or_at steps n at (opposite m) e (false' m l.0)) [
+        | inl before ↦ before
+        | inr here ↦ absurd (l.1 (sym (opposite-opposite m) ∙ ap opposite (sym here ∙ is)))
+      ]
+      | inr x ↦ elim (forces.others m x.0) [
+        | inl same ↦ absurd (x.1 (same ∙ sym (opposite-opposite lit)))
+        | inr before ↦ before
+      ]
+    ]
+
+pub Contains-head : (x : Lit) (xs : List Lit) → Contains (x ∷ xs) x
+Contains-head x xs = (0, omega arith, refl)
+
+-- nothing is false before the first place
+pub none_false : (steps : List Step) (clause : List Lit) → AllFalse steps 0 clause → clause ≡ []
+none_false steps [] h = refl
+none_false steps (x ∷ xs) h = absurd (omega (arith, (h x (Contains-head x xs)).1))
+
+-- the removal of a literal from one side and of its opposite from the other
+pub resolves_from : (left right mid after : List Lit) (lit : Lit) → Contains left (opposite lit) → Contains right lit → ((m : Lit) → (Contains mid m → Contains left m × (m ≢ opposite lit)) × (Contains left m × (m ≢ opposite lit) → Contains mid m)) → ((m : Lit) → (Contains after m → Contains mid m ⊎ (Contains right m × (m ≢ lit))) × (Contains mid m ⊎ (Contains right m × (m ≢ lit)) → Contains after m)) → Resolves left right (opposite lit) after
+resolves_from left right mid after lit on_left on_right dropped joined = record {
+  on_left = on_left;
+  on_right = subst (λ l. Contains right l) (sym (opposite-opposite lit)) on_right;
+  joined = λ m. (
+    λ h. elim ((joined m).0 h) [ inl x ↦ inl ((dropped m).0 x) | inr y ↦ inr (y.0, λ e. y.1 (e ∙ opposite-opposite lit)) ],
+    λ h. (joined m).1 (elim h [ inl x ↦ inl ((dropped m).1 x) | inr y ↦ inr (y.0, λ e. y.1 (e ∙ sym (opposite-opposite lit))) ]),
+  );
+}
+
+pub resolved : (left right mid after sl r : List Lit) (lit neg : Lit) → sl ≡ left → neg ≡ opposite lit → r ≡ right → IsWithout sl neg mid → IsJoined mid r lit after → Contains left (opposite lit) → Contains right lit → Resolves left right (opposite lit) after
+resolved left right mid after sl r lit neg e1 e2 e3 d j on_left on_right =
+    let d1 = subst (λ (n : Lit). IsWithout sl n mid) e2 d in
+    let d2 = subst (λ (l : List Lit). IsWithout l (opposite lit) mid) e1 d1 in
+    let j1 = subst (λ (l : List Lit). IsJoined mid l lit after) e3 j in
+    resolves_from left right mid after lit on_left on_right d2 j1
+
+-- a clause that was added or learnt needs no assumption
+pub named_without : (added learnt : List (List Lit)) (assumed : List Lit) (source : Source) → opens_level (Some source) ≡ false → Names (known_from added learnt assumed) source → Names (known_from added learnt []) source × (clause_of (known_from added learnt []) source ≡ clause_of (known_from added learnt assumed) source)
+named_without added learnt assumed (Added place) o n = (n, refl)
+named_without added learnt assumed (Learnt place) o n = (n, refl)
+named_without added learnt assumed (Assumed place) o n = absurd (cc)

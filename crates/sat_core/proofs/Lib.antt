@@ -1,0 +1,13 @@
+pub mod Analysis
+pub mod Chains
+pub mod Growing
+pub mod Logs
+pub mod Measure
+pub mod Members
+pub mod Models
+pub mod Reasons
+pub mod Refuted
+pub mod Scans
+pub mod Searching
+pub mod Trails
+pub mod Units

@@ -1,0 +1,60 @@
+ghost use Rattle.std.specs.Prelude.{◌≡◌, ◌<◌, ◌+◌, ℕ, List, [], ◌∷◌, length, IfOk, MatchOption, Contains, slice_index_or};
+ghost use Rattle.cnf.specs.declared.lit.Lit.{Lit};
+ghost use Rattle.cnf.specs.Clauses.{opposite};
+ghost use Rattle.clause_log.specs.Derivations.{Derives};
+ghost use Rattle.sat_core.specs.Numbering.{clauses_of};
+ghost use Rattle.sat_core.specs.Outcomes.{HasOpposites, AreOpposite, IsOfUnits, StandsAt};
+
+use crate::chain::{Derivation, Link};
+use crate::log::chain;
+use crate::source::Source;
+use clause_log::ChainLog;
+use cnf::{Clause, Lit};
+use port_types::NoMemory;
+use std::alloc::Global;
+
+/// The place of a literal in a list.
+fn place_of(lits: &[Lit], lit: Lit) -> Option<usize>
+    ensures { MatchOption result (Contains lits.now lit → ⊥) (λ place. StandsAt lits.now place lit) }
+{
+    lits.iter().position(|other| other.same(lit))
+}
+
+/// Two opposite literals of a list, by their places.
+pub fn opposites(lits: &[Lit]) -> Option<(usize, usize)>
+    ensures { MatchOption result (HasOpposites lits.now → ⊥) (λ places. AreOpposite lits.now places.0 places.1) }
+{
+    for (place, lit) in lits.iter().enumerate() {
+        if let Some(other) = place_of(lits, lit.negated()) {
+            return Some((place, other));
+        }
+    }
+    None
+}
+
+/// The log that resolves the unit clauses of two opposite assumptions.
+pub fn units_log(
+    alloc: Global,
+    added: &[Clause],
+    assumed: &[Lit],
+    place: usize,
+    other: usize,
+) -> Result<ChainLog, NoMemory>
+    requires { AreOpposite assumed.now place other }
+    ensures derives { IfOk result (Derives (clauses_of added.now assumed.now)) }
+    ensures units { IfOk result (IsOfUnits (length added.now) assumed.now) }
+{
+    let mut rest = Vec::new(alloc);
+    rest.push(Link {
+        var: assumed[place].var,
+        source: Source::Assumed(other),
+    })?;
+    let derivation = Derivation {
+        first: Source::Assumed(place),
+        rest,
+    };
+    let end = chain(alloc, &[], &derivation, added.len(), &[])?;
+    let mut log = ChainLog::new(alloc);
+    log.push(end)?;
+    Ok(log)
+}

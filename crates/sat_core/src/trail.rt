@@ -1,0 +1,150 @@
+ghost use Rattle.std.specs.Prelude.{◌≡◌, ◌<◌, ◌≤◌, ◌+◌, ◌∷◌, ◌++◌, ◌↔◌, ℕ, [], true, false, length, take, IsTrue, IfOk, IfSome, OnOk, OnErr, MatchOption, slice_index_or, vec_len};
+ghost use Rattle.cnf.specs.declared.lit.Lit.{Lit};
+ghost use Rattle.sat_core.specs.Search.{step_at, lit_at, MadeTrue, IsFree, IsTrail, opens_level, ValueIs};
+
+use crate::source::Source;
+use cnf::Lit;
+use port_types::NoMemory;
+use std::alloc::Global;
+
+/// A literal that was made true, with the clause that forced it; none where it was decided.
+#[derive(Clone, Copy, Debug)]
+pub struct Step {
+    pub lit: Lit,
+    pub source: Option<Source>,
+}
+
+/// The literals made true, in order, and the place of each variable among them.
+#[derive(Debug, Drop)]
+pub struct Trail {
+    pub steps: Vec<Step>,
+    pub places: Vec<Option<usize>>,
+}
+
+/// Whether a step opens a level: it is a decision or an assumption.
+pub fn opens(step: Step) -> bool
+    ensures { result ≡ opens_level step.source }
+{
+    match step.source {
+        None => true,
+        Some(Source::Assumed(_)) => true,
+        Some(Source::Added(_)) => false,
+        Some(Source::Learnt(_)) => false,
+    }
+}
+
+impl Trail {
+    /// The empty trail over so many variables.
+    pub fn new(alloc: Global, vars: usize) -> Result<Trail, NoMemory>
+        ensures trail { IfOk result (λ trail. IsTrail trail.steps.items trail.places.items) }
+        ensures steps { IfOk result (λ trail. trail.steps.items ≡ []) }
+        ensures vars { IfOk result (λ trail. length trail.places.items ≡ vars) }
+    {
+        let mut places = Vec::new(alloc);
+        for _ in 0..vars {
+            places.push(None)?;
+        }
+        Ok(Trail {
+            steps: Vec::new(alloc),
+            places,
+        })
+    }
+
+    /// The number of literals made true.
+    pub fn len(&self) -> usize
+        ensures { result ≡ length self.now.steps.items }
+    {
+        self.steps.len()
+    }
+
+    /// The step at a place.
+    pub fn step(&self, place: usize) -> Step
+        requires { place < length self.now.steps.items }
+        ensures { result ≡ step_at self.now.steps.items place }
+    {
+        self.steps[place]
+    }
+
+    /// The place of a variable, none where it has no value.
+    pub fn place(&self, var: usize) -> Option<usize>
+        requires { var < length self.now.places.items }
+        ensures { result ≡ slice_index_or self.now.places.items var None }
+    {
+        self.places[var]
+    }
+
+    /// Whether a literal is true or false, none where its variable has no value.
+    pub fn value(&self, lit: Lit) -> Option<bool>
+        requires trail { IsTrail self.now.steps.items self.now.places.items }
+        requires var { lit.var < length self.now.places.items }
+        ensures { ValueIs self.now.steps.items self.now.places.items lit result }
+    {
+        match self.places[lit.var] {
+            None => None,
+            Some(place) => Some(self.steps[place].lit.positive == lit.positive),
+        }
+    }
+
+    /// The number of variables.
+    pub fn vars(&self) -> usize
+        ensures { result ≡ length self.now.places.items }
+    {
+        self.places.len()
+    }
+
+    /// The value of a variable, false where it has none.
+    pub fn holds(&self, var: usize) -> bool
+        requires trail { IsTrail self.now.steps.items self.now.places.items }
+        requires var { var < length self.now.places.items }
+        ensures { (lit : Lit) → MadeTrue self.now.steps.items (length self.now.steps.items) lit → lit.var ≡ var → result ≡ lit.positive }
+    {
+        match self.places[var] {
+            None => false,
+            Some(place) => self.steps[place].lit.positive,
+        }
+    }
+
+    /// Makes a literal true whose variable has no value.
+    pub fn push(&mut self, step: Step) -> Result<(), NoMemory>
+        requires trail { IsTrail self.old.steps.items self.old.places.items }
+        requires var { step.lit.var < length self.old.places.items }
+        requires free { slice_index_or self.old.places.items (step.lit.var) None ≡ None }
+        ensures trail { IsTrail self.new.steps.items self.new.places.items }
+        ensures vars { length self.new.places.items ≡ length self.old.places.items }
+        ensures ok { OnOk result (self.new.steps.items ≡ self.old.steps.items ++ step ∷ []) }
+        ensures err { OnErr result (self.new.steps.items ≡ self.old.steps.items) }
+    {
+        let place = self.steps.len();
+        self.steps.push(step)?;
+        self.places[step.lit.var] = Some(place);
+        Ok(())
+    }
+
+    /// Takes back all but the first `keep` steps.
+    pub fn cut(&mut self, keep: usize)
+        requires trail { IsTrail self.old.steps.items self.old.places.items }
+        ensures trail { IsTrail self.new.steps.items self.new.places.items }
+        ensures vars { length self.new.places.items ≡ length self.old.places.items }
+        ensures steps { self.new.steps.items ≡ take keep self.old.steps.items }
+    {
+        while self.steps.len() > keep {
+            if let Some(step) = self.steps.pop() {
+                self.places[step.lit.var] = None;
+            }
+        }
+    }
+
+    /// The first place from `from` on, and before `to`, whose step opens a level.
+    pub fn opening(&self, from: usize, to: usize) -> Option<usize>
+        requires { to ≤ length self.now.steps.items }
+        ensures some { IfSome result (λ place. (from ≤ place) × (place < to) × (opens_level (step_at self.now.steps.items place).source ≡ true)) }
+        ensures none { result ≡ None → (p : ℕ) → from ≤ p → p < to → opens_level (step_at self.now.steps.items p).source ≡ false }
+    {
+        for place in from..to {
+            if opens(self.steps[place]) {
+                return Some(place);
+            }
+        }
+        None
+    }
+}
