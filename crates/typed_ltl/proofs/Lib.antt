@@ -8,3 +8,4 @@ pub mod RowSteps
 pub mod RowLoops
 pub mod Rooms
 pub mod Meanings
+pub mod Samples
