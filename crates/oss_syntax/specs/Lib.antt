@@ -1,1 +1,11 @@
 pub mod Tokens
+pub mod Expressions
+pub mod Trees
+pub mod Spanless
+pub mod Steps
+pub mod Formulas
+pub mod Items
+pub mod Texts
+pub mod Terminals
+pub mod Laws
+pub mod SyntaxFaults

@@ -1,0 +1,4 @@
+pub mod Phrases
+pub mod Reads
+pub mod Rules
+pub mod Words

@@ -1,0 +1,18 @@
+//! Reads the tokens of a specification into its tree.
+#![tactic(auto)]
+
+mod component;
+mod cursor;
+mod expressions;
+mod halt;
+mod interface;
+mod part;
+mod refinement;
+mod terminals;
+#[cfg(test)]
+mod tests;
+mod top;
+mod types;
+mod words;
+
+pub use top::read_tree;

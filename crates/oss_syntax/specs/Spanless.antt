@@ -1,0 +1,67 @@
+use Rattle.std.specs.Prelude.{List, map, option_map}
+use Rattle.oss_base.specs.declared.place.Span.{Span}
+use Rattle.oss_syntax.specs.declared.words.Word.{Word}
+use Rattle.oss_syntax.specs.declared.words.PartWord.{PartWord}
+use Rattle.oss_syntax.specs.declared.types.BoundTree.{BoundTree}
+use Rattle.oss_syntax.specs.declared.types.TypeTree.{TypeTree}
+use Rattle.oss_syntax.specs.declared.types.TypeTree.TheVariants as type
+use Rattle.oss_syntax.specs.declared.refinement.TargetTree.{TargetTree}
+use Rattle.oss_syntax.specs.declared.refinement.TargetTree.TheVariants as targets
+use Rattle.oss_syntax.specs.Expressions.{Tree, Name, Dotted, Numeral, Truth, Brackets, OfPort, Prefix, Binary}
+use Rattle.oss_syntax.specs.Trees.{Item, Port, Contract, RefinementPart, Sub, Connection, Refined, Component}
+
+-- A specification without its spans: each of them is put to the same one. Two specifications are the
+-- same without spans where these are equal. Their texts may differ in blanks, comments, spellings,
+-- leading zeros and the line `@requires`; brackets are a part of the tree.
+abbrev pub no_span : Span
+no_span = record { start = 0; end = 0 }
+
+abbrev pub bare_word : Word → Word
+bare_word word = record { text = word.text; span = no_span }
+
+abbrev pub bare_part : PartWord → PartWord
+bare_part part = record { sub = bare_word part.sub; contract = bare_word part.contract }
+
+abbrev pub bare_bound : BoundTree → BoundTree
+bare_bound bound = record { negative = bound.negative; value = bound.value; span = no_span }
+
+abbrev pub bare_type : TypeTree → TypeTree
+bare_type type.Boolean = type.Boolean
+bare_type type.Event = type.Event
+bare_type (type.Range lo hi) = type.Range (bare_bound lo) (bare_bound hi)
+bare_type (type.Enum names) = type.Enum (map bare_word names)
+
+abbrev pub bare_target : TargetTree → TargetTree
+bare_target (targets.Own name) = targets.Own (bare_word name)
+bare_target (targets.OfSub sub port) = targets.OfSub (bare_word sub) (bare_word port)
+
+abbrev pub bare_tree : Tree → Tree
+bare_tree (Name word) = Name (bare_word word)
+bare_tree (Dotted sub port) = Dotted (bare_word sub) (bare_word port)
+bare_tree (Numeral value _) = Numeral value no_span
+bare_tree (Truth truth _) = Truth truth no_span
+bare_tree (Brackets inside _) = Brackets (bare_tree inside) no_span
+bare_tree (OfPort word port _) = OfPort word (bare_word port) no_span
+bare_tree (Prefix word operand _) = Prefix word (bare_tree operand) no_span
+bare_tree (Binary word left right _) = Binary word (bare_tree left) (bare_tree right) no_span
+
+abbrev pub bare_item : Item → Item
+bare_item (Port input name kind) = Port input (bare_word name) (bare_type kind)
+bare_item (Contract name assume guarantee) = Contract (bare_word name) (bare_tree assume) (bare_tree guarantee)
+
+abbrev pub bare_refinement_part : RefinementPart → RefinementPart
+bare_refinement_part (Sub name component) = Sub (bare_word name) (bare_word component)
+bare_refinement_part (Connection target source) = Connection (bare_target target) (bare_tree source)
+bare_refinement_part (Refined name parts) = Refined (bare_word name) (map bare_part parts)
+
+-- whether a component is the system is kept, and where the word stands is not
+abbrev pub bare_component : Component → Component
+bare_component c = record {
+  name = bare_word c.name;
+  system = option_map (λ (_ : Span). no_span) c.system;
+  interface = map bare_item c.interface;
+  refinement = option_map (map bare_refinement_part) c.refinement;
+}
+
+abbrev pub bare_components : List Component → List Component
+bare_components components = map bare_component components
