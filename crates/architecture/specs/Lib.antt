@@ -1,0 +1,9 @@
+pub mod Expressions
+pub mod Architecture
+pub mod Names
+pub mod FirstForm
+pub mod Tables
+pub mod Stands
+pub mod Resolving
+pub mod Propositional
+pub mod Laws
