@@ -1,0 +1,6 @@
+pub mod Tells
+pub mod States
+pub mod Substituted
+pub mod Rows
+pub mod Targets
+pub mod Driven

@@ -1,0 +1,4 @@
+pub mod Drivers
+pub mod Laws
+pub mod Substitution
+pub mod Tables
