@@ -1,0 +1,54 @@
+use Rattle.architecture.specs.Propositional.{IsPropositionalSpec}
+use Rattle.std.proofs.Common.{◌≡◌, ℕ, zero, suc, Bool, List, [], ◌∷◌, length, Option, Some, None, slice_get, subst, refl}
+use Rattle.architecture.specs.declared.spec.Spec.{Spec}
+use Rattle.architecture.specs.declared.item.Item.{Item}
+use Rattle.architecture.specs.Architecture.{free_targets}
+use Rattle.typed_ltl.specs.declared.lasso.Verdict.{Verdict}
+use Rattle.typed_ltl.specs.declared.lasso.Verdict.TheVariants as verdict
+use Rattle.obligations.specs.Levels.{Part, Question, entails, assumes, IsValid}
+use Rattle.obligations.specs.Laws.{IsValidLevel, ContractsCompose}
+use Rattle.obligations.specs.Valuations.{first_breaking}
+use Rattle.obligations.specs.Verdicts.{IsVerdict, AreAssumesVerdicts, AreVerdicts, OnePositionDecides, LevelsAreDecided}
+use Rattle.obligations.specs.Safety.{AreProved, ProvedSystemsAreSafe}
+
+-- Proved questions are valid, and valid levels compose.
+
+nothing_breaks : (o : Option (List Bool)) → IsVerdict o verdict.Proved → o ≡ None
+nothing_breaks None h = refl
+nothing_breaks (Some bs) h = absurd h
+
+valid_where_proved : (spec : Spec) (item : Item) (q : Question) → OnePositionDecides spec item q
+    → IsVerdict (first_breaking (length (free_targets spec item.component)) q) verdict.Proved → IsValid spec item.component q
+valid_where_proved spec item q d h = d.valid (nothing_breaks (first_breaking (length (free_targets spec item.component)) q) h)
+
+assumes_valid : (spec : Spec) (item : Item) → ((part : Part) → OnePositionDecides spec item (assumes spec item part))
+    → (parts : List Part) (vs : List Verdict) → AreAssumesVerdicts spec item parts vs → AreProved vs
+    → (n : ℕ) (part : Part) → slice_get parts n ≡ Some part → IsValid spec item.component (assumes spec item part)
+assumes_valid spec item d [] vs h p n part e = cc
+assumes_valid spec item d (x ∷ parts) [] h p n part e = absurd h
+assumes_valid spec item d (x ∷ parts) (verdict.Proved ∷ vs) h p zero part e =
+    let same : x ≡ part = cc in
+    let IsValidFor : Part → Type 0 = λ p. IsValid spec item.component (assumes spec item p) in
+    subst IsValidFor same (valid_where_proved spec item (assumes spec item x) (d x) h.0)
+assumes_valid spec item d (x ∷ parts) (verdict.Proved ∷ vs) h p (suc n) part e = assumes_valid spec item d parts vs h.1 p n part e
+assumes_valid spec item d (x ∷ parts) (verdict.Undecided ∷ vs) h p n part e = absurd p
+assumes_valid spec item d (x ∷ parts) (verdict.Refuted lasso ∷ vs) h p n part e = absurd p
+
+level_valid : LevelsAreDecided → (spec : Spec) → IsPropositionalSpec spec → (item : Item) (vs : List Verdict) → AreVerdicts spec item vs → AreProved vs → IsValidLevel spec item
+level_valid decided spec ok item [] h p = absurd h
+level_valid decided spec ok item (verdict.Proved ∷ vs) h p =
+    let d = decided spec item ok in
+    record {
+      entailed = valid_where_proved spec item (entails spec item) d.0 h.0;
+      assumed = assumes_valid spec item d.1 item.parts vs h.1 p;
+    }
+level_valid decided spec ok item (verdict.Undecided ∷ vs) h p = absurd p
+level_valid decided spec ok item (verdict.Refuted lasso ∷ vs) h p = absurd p
+
+pub proved_systems_are_safe : LevelsAreDecided → ContractsCompose → ProvedSystemsAreSafe
+proved_systems_are_safe decided compose spec ok proved k w trace leaves x =
+    compose spec k w ok.well trace
+    (λ p c d r item by.
+    (let v = proved by.stands.0 item by.stands.1 in
+    level_valid decided spec ok item v.0 v.1 v.2))
+    leaves x

@@ -1,0 +1,7 @@
+use Rattle.architecture.specs.Propositional.{IsPropositionalSpec}
+use Rattle.std.proofs.Common.{take}
+use Rattle.obligations.proofs.Decided.{AreVerdictsOf}
+use Rattle.obligations.proofs.deciding.verdicts.Given as goal
+
+abbrev pub invariant-loop-place : goal.invariant-loop-place
+invariant-loop-place l = IsPropositionalSpec l.spec → AreVerdictsOf l.spec l.item (take l.place l.item.parts) l.verdicts.items

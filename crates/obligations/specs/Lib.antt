@@ -1,0 +1,8 @@
+pub mod Laws
+pub mod Levels
+pub mod Names
+pub mod Safety
+pub mod Systems
+pub mod Tables
+pub mod Valuations
+pub mod Verdicts

@@ -1,0 +1,72 @@
+use Rattle.architecture.specs.Propositional.{IsPropositionalSpec}
+use Rattle.std.specs.Prelude.{◌≡◌, ℕ, Bool, true, false, List, [], ◌∷◌, length, Option, Some, None, slice_get}
+use Rattle.oss_base.specs.declared.ids.ComponentId.{ComponentId}
+use Rattle.port_types.specs.declared.types.PortType.TheVariants as kind
+use Rattle.architecture.specs.declared.spec.Spec.{Spec}
+use Rattle.architecture.specs.declared.item.Item.{Item}
+use Rattle.architecture.specs.declared.port.OwnPort.{OwnPort}
+use Rattle.architecture.specs.declared.contract.Contract.{Contract}
+use Rattle.architecture.specs.declared.wire.Wire.{Wire}
+use Rattle.architecture.specs.declared.wire.Source.{Source}
+use Rattle.architecture.specs.declared.wire.Source.TheVariants as source
+use Rattle.architecture.specs.Expressions.{ReadsBelow}
+use Rattle.architecture.specs.Architecture.{ports_of, contracts_of, wires_of, free_targets, IsWellFormed}
+use Rattle.typed_ltl.specs.declared.lasso.Verdict.{Verdict}
+use Rattle.typed_ltl.specs.declared.lasso.Verdict.TheVariants as verdict
+use Rattle.typed_ltl.specs.Formulas.{meaning}
+use Rattle.typed_ltl.specs.Traces.{word}
+use Rattle.obligations.specs.Levels.{Part, Question, entails, assumes, IsFreeTrace, IsValid, IsBrokenBy}
+use Rattle.obligations.specs.Valuations.{boolean_values, breaks, first_breaking}
+
+-- Specifications over truth values, and the verdicts of their questions.
+
+-- A question is refuted by the least valuation that breaks it, as a lasso of one position, and proved
+-- where there is none.
+abbrev pub IsVerdict : Option (List Bool) → Verdict → Type 0
+IsVerdict (Some bs) (verdict.Refuted lasso) = (lasso.states ≡ boolean_values bs ∷ []) × (lasso.loop_at ≡ 0)
+IsVerdict None verdict.Proved = Unit {0}
+IsVerdict _ _ = ⊥
+
+abbrev pub AreAssumesVerdicts : Spec → Item → List Part → List Verdict → Type 0
+AreAssumesVerdicts spec item [] [] = Unit {0}
+AreAssumesVerdicts spec item (part ∷ parts) (v ∷ vs) =
+    IsVerdict (first_breaking (length (free_targets spec item.component)) (assumes spec item part)) v × AreAssumesVerdicts spec item parts vs
+AreAssumesVerdicts spec item _ _ = ⊥
+
+-- the verdicts of a level: of its entails question, then of the assumes questions in the order of the list
+abbrev pub AreVerdicts : Spec → Item → List Verdict → Type 0
+AreVerdicts spec item [] = ⊥
+AreVerdicts spec item (v ∷ vs) =
+    IsVerdict (first_breaking (length (free_targets spec item.component)) (entails spec item)) v × AreAssumesVerdicts spec item item.parts vs
+
+-- The questions of a specification over truth values are decided at one position: a question that no
+-- valuation breaks is valid, and the lasso of a valuation that breaks it gives each free port a value
+-- of its type, and breaks it.
+pub record OnePositionDecides (spec : Spec) (item : Item) (q : Question) : Type 0 where
+  pub valid : first_breaking (length (free_targets spec item.component)) q ≡ None → IsValid spec item.component q
+  pub typed : (bs : List Bool) → first_breaking (length (free_targets spec item.component)) q ≡ Some bs → IsFreeTrace spec item.component (word (boolean_values bs ∷ []) 0)
+  pub broken : (bs : List Bool) → first_breaking (length (free_targets spec item.component)) q ≡ Some bs → IsBrokenBy q (boolean_values bs ∷ []) 0
+
+abbrev pub LevelsAreDecided : Type 0
+LevelsAreDecided = (spec : Spec) (item : Item) → IsPropositionalSpec spec
+    → OnePositionDecides spec item (entails spec item) × ((part : Part) → OnePositionDecides spec item (assumes spec item part))
+
+-- One list of truth values stands before another of the same length: at the first place where they
+-- differ it has false.
+abbrev pub StandsBefore : List Bool → List Bool → Type 0
+StandsBefore [] ys = ⊥
+StandsBefore (x ∷ xs) [] = ⊥
+StandsBefore (false ∷ xs) (false ∷ ys) = StandsBefore xs ys
+StandsBefore (false ∷ xs) (true ∷ ys) = Unit {0}
+StandsBefore (true ∷ xs) (false ∷ ys) = ⊥
+StandsBefore (true ∷ xs) (true ∷ ys) = StandsBefore xs ys
+
+-- the least valuation of n truth values that passes a test
+pub record IsLeast (n : ℕ) (test : List Bool → Bool) (bs : List Bool) : Type 0 where
+  pub whole : length bs ≡ n
+  pub passes : test bs ≡ true
+  pub least : (cs : List Bool) → length cs ≡ n → StandsBefore cs bs → test cs ≡ false
+
+-- The first valuation that breaks a question is the least one.
+abbrev pub FirstIsLeast : Type 0
+FirstIsLeast = (n : ℕ) (q : Question) (bs : List Bool) → first_breaking n q ≡ Some bs → IsLeast n (λ (cs : List Bool). breaks cs q) bs
