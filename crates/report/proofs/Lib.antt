@@ -1,0 +1,3 @@
+pub mod Zips
+pub mod FreeNames
+pub mod AllAnswers

@@ -1,0 +1,7 @@
+use Rattle.architecture.specs.Propositional.{IsPropositionalSpec}
+use Rattle.std.proofs.Common.{take}
+use Rattle.report.specs.AllAnswers.{AreAnswersFrom}
+use Rattle.report.proofs.valuing.answer_by_valuations.Given as goal
+
+abbrev pub invariant-loop-place : goal.invariant-loop-place
+invariant-loop-place l = IsPropositionalSpec l.spec → AreAnswersFrom l.spec 0 (take l.place l.spec.items) l.answers

@@ -1,0 +1,14 @@
+//! The texts of a report.
+#![tactic(auto)]
+
+mod answers;
+mod check_text;
+mod free_ports;
+mod lasso_block;
+#[cfg(test)]
+mod tests;
+mod valuing;
+
+pub use answers::{Answer, Answers, status_of};
+pub use check_text::render_check;
+pub use valuing::{answer_by_valuations, success_is_safe};
