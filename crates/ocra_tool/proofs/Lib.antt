@@ -1,2 +1,3 @@
-pub mod Pieces
+pub mod Decided
+pub mod Excluded
 pub mod Saying

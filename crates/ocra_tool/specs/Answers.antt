@@ -12,7 +12,11 @@ OfFile task held P = IfSome task (λ t. IfSome (held (file_of t)) P)
 abbrev pub IsQuiet : ℕ → ℕ → Type 0
 IsQuiet before now = ¬ Rose before now
 
--- The statuses that the program ends with: done, the file is refused, the words mean no command, the file could not be
+-- The statuses that the program ends with: done with nothing refuted, done with something refuted, the file is refused, the words mean no command, the file could not be
 -- read, the output could not be written, want of memory.
 abbrev pub IsStatus : ℕ → Type 0
-IsStatus status = (status ≡ 0) ⊎ (status ≡ 3) ⊎ (status ≡ 4) ⊎ (status ≡ 5) ⊎ (status ≡ 6) ⊎ (status ≡ 7)
+IsStatus status = (status ≡ 0) ⊎ (status ≡ 1) ⊎ (status ≡ 3) ⊎ (status ≡ 4) ⊎ (status ≡ 5) ⊎ (status ≡ 6) ⊎ (status ≡ 7)
+
+-- The statuses of a check that is done.
+abbrev pub IsDone : ℕ → Type 0
+IsDone status = (status ≡ 0) ⊎ (status ≡ 1)

@@ -3,11 +3,6 @@ use Rattle.std.specs.Prelude.{ℕ, ◌≤◌, List, ◌++◌, Option, codes, dec
 use Rattle.std.specs.Io.KnownBytes.{Appends}
 use Rattle.oss_io.specs.Outside.{Rose, AppendsFront}
 
--- The last line of a report: how many obligations were proved, refuted and left undecided.
-abbrev pub totals_line : ℕ → ℕ → ℕ → List ℕ
-totals_line proved refuted undecided = codes "proved " ++ decimal proved ++ codes " refuted " ++ decimal refuted
-    ++ codes " undecided " ++ decimal undecided ++ codes "\n"
-
 -- Where words mean no command.
 abbrev pub usage_line : List ℕ
 usage_line = codes "usage: ocra_tool check|tree|certify FILE [--depth 1..32] [--width 1..3] | print FILE | replay FILE LASSO | recheck FILE CERT | sample N\n"

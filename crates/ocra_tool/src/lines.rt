@@ -1,7 +1,12 @@
-ghost use Rattle.std.specs.Prelude.{◌++◌};
+ghost use Rattle.std.specs.Prelude.{◌≡◌, ◌++◌, IfOk};
+ghost use Rattle.ocra_tool.specs.Outcomes.{fault_line_of};
 ghost use Rattle.ocra_tool.specs.Lines.{Says, no_memory_line, read_fault_line, usage_line, write_fault_line};
 
+use itoa::Buffer;
+use oss_base::Fault;
 use oss_io::{Failed, Sink, write_all};
+use port_types::{NoMemory, Text};
+use std::alloc::Global;
 
 const USAGE: &[u8] =
     b"usage: ocra_tool check|tree|certify FILE [--depth 1..32] [--width 1..3] | print FILE | replay FILE LASSO | recheck FILE CERT | sample N\n";
@@ -49,4 +54,23 @@ fn say_two<E: Sink>(err: &mut E, first: &[u8], second: &[u8])
         Ok(()) => say(err, second),
         Err(Failed) => {}
     }
+}
+
+/// The line on a file that is refused for this fault.
+pub fn fault_line(alloc: Global, file: &str, fault: Fault) -> Result<Text, NoMemory>
+    ensures { IfOk result (λ line. line ≡ fault_line_of file.now fault) }
+{
+    let mut number = Buffer::new();
+    let mut line = Text::new(alloc);
+    line.append(file.as_bytes())?;
+    line.append(b":")?;
+    line.append(number.format(fault.place.line).as_bytes())?;
+    line.append(b":")?;
+    line.append(number.format(fault.place.column).as_bytes())?;
+    line.append(b": F")?;
+    line.append(number.format(fault.kind.number()).as_bytes())?;
+    line.append(b" ")?;
+    line.append(fault.kind.text().as_bytes())?;
+    line.append(b"\n")?;
+    Ok(line)
 }

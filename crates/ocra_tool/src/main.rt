@@ -6,10 +6,9 @@
 
 mod arguments;
 mod check;
-mod empty_system;
+mod laws;
 mod lines;
 mod outcome;
-mod report;
 #[cfg(test)]
 mod tests;
 mod top;

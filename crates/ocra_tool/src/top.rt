@@ -1,16 +1,20 @@
 ghost use Rattle.std.specs.Prelude.{◌≡◌, ◌≢◌, ◌≤◌, ◌↔◌, ◌⊎◌, List, ℕ, None, IfSome};
 ghost use Rattle.std.specs.Io.KnownBytes.{Appends};
 ghost use Rattle.oss_io.specs.Outside.{AppendsFront, Rose};
-ghost use Rattle.ocra_tool.specs.Answers.{IsQuiet, IsStatus, OfFile};
-ghost use Rattle.ocra_tool.specs.EmptySystem.{Accepted};
+ghost use Rattle.ocra_tool.specs.Answers.{IsDone, IsQuiet, IsStatus, OfFile};
+ghost use Rattle.oss_base.specs.declared.fault.Fault.{Fault};
+ghost use Rattle.architecture.specs.declared.spec.Spec.{Spec};
+ghost use Rattle.ocra_tool.specs.Decided.{IsChecked, IsSafe};
+ghost use Rattle.ocra_tool.specs.Files.{Accepted, IsFaultOf, IsSystemOf, Refused};
 ghost use Rattle.ocra_tool.specs.Lines.{Says, no_memory_line, read_fault_line, usage_line, write_fault_line};
-ghost use Rattle.ocra_tool.specs.Outcomes.{Means, fault_line_of, file_of, refusal, text_of};
+ghost use Rattle.ocra_tool.specs.Outcomes.{Means, fault_line_of, file_of};
 ghost use Rattle.ocra_tool.specs.Commands.{task_meant};
 ghost use Rattle.ocra_tool.specs.Words.{task_of};
 
 use crate::check::check_file;
+use crate::laws::accepted_has_no_fault;
 use crate::lines::{say, say_no_memory, say_read_fault, say_usage, say_write_fault};
-use crate::outcome::Outcome;
+use crate::outcome::{Ending, Outcome};
 use crate::words::{Command, parse_words};
 use oss_io::{Failed, Shelf, Sink, write_all};
 use std::alloc::Global;
@@ -18,8 +22,9 @@ use std::alloc::Global;
 /// Does what the words ask: reads from the shelf, writes the answer to `out` and a line on what went
 /// wrong to `err`, and answers the status that the program ends with.
 ///
-/// The statuses are 0 (done), 3 (the file is refused), 4 (the words mean no command), 5 (the file
-/// could not be read), 6 (the output could not be written) and 7 (want of memory).
+/// The statuses are 0 (done, everything is proved), 1 (done, something is refuted), 3 (the file is
+/// refused), 4 (the words mean no command), 5 (the file could not be read), 6 (the output could not be
+/// written) and 7 (want of memory).
 pub fn run<F: Shelf, O: Sink, E: Sink>(
     alloc: Global,
     words: &[String],
@@ -33,18 +38,23 @@ pub fn run<F: Shelf, O: Sink, E: Sink>(
 
     ensures statuses { IsStatus result }
 
-    // 0, done: the file's bytes are accepted, `out` took the whole text, and `err` is untouched.
-    ensures done_accepted { result ≡ 0 → OfFile (task_of words.now) (F.held shelf.old) Accepted }
-    ensures done_text { result ≡ 0 → IfSome (task_of words.now) (λ task.
-        Appends (O.taken out.old) (O.taken out.new) (text_of task)) }
-    ensures done_quiet { result ≡ 0 → err.new ≡ err.old }
+    // 0 and 1, done: `out` took a whole text, and `err` is untouched. The file's bytes are a
+    // specification of which the text is the report, and the status is 1 exactly where the report has
+    // something refuted.
+    ensures done { IsDone result → IfSome (task_of words.now) (λ task. (text : List ℕ) ×
+        Appends (O.taken out.old) (O.taken out.new) text
+        × IfSome (F.held shelf.old (file_of task)) (λ bytes. IsChecked bytes text result)) }
+    ensures done_quiet { IsDone result → err.new ≡ err.old }
 
-    // 3, refused: the file's bytes are not accepted.
-    ensures refused { result ≡ 3 →
-        OfFile (task_of words.now) (F.held shelf.old) (λ bytes. ¬ Accepted bytes) }
-    ensures refused_line { result ≡ 3 → IfSome (task_of words.now) (λ task.
+    // 0: everything is proved, and the system is safe.
+    ensures safe { result ≡ 0 → OfFile (task_of words.now) (F.held shelf.old)
+        (λ bytes. (spec : Spec) × IsSystemOf bytes spec × IsSafe spec) }
+
+    // 3, refused: the file's bytes have a fault, and the line says which one.
+    ensures refused { result ≡ 3 → IfSome (task_of words.now) (λ task. (fault : Fault) ×
         Says (E.taken err.old) (E.taken err.new) (E.faults err.old) (E.faults err.new)
-        (fault_line_of (file_of task) refusal)) }
+        (fault_line_of (file_of task) fault)
+        × IfSome (F.held shelf.old (file_of task)) (λ bytes. IsFaultOf bytes fault)) }
 
     // 4 comes exactly where the words mean no command, and the shelf is untouched.
     ensures usage { (result ≡ 4) ↔ (task_of words.now ≡ None) }
@@ -58,13 +68,11 @@ pub fn run<F: Shelf, O: Sink, E: Sink>(
         Says (E.taken err.old) (E.taken err.new) (E.faults err.old) (E.faults err.new)
         (read_fault_line (file_of task))) }
 
-    // 6 comes only where a call on `out` failed. The file's bytes are accepted, and `out` took a
-    // front of the text.
+    // 6 comes only where a call on `out` failed. `out` took a front of the report.
     ensures write_fault { result ≡ 6 → Rose (O.faults out.old) (O.faults out.new) }
-    ensures write_fault_accepted { result ≡ 6 →
-        OfFile (task_of words.now) (F.held shelf.old) Accepted }
-    ensures write_fault_text { result ≡ 6 → IfSome (task_of words.now) (λ task.
-        AppendsFront (O.taken out.old) (O.taken out.new) (text_of task)) }
+    ensures write_fault_text { result ≡ 6 → IfSome (task_of words.now) (λ task. (text : List ℕ) × (status : ℕ) ×
+        AppendsFront (O.taken out.old) (O.taken out.new) text
+        × IfSome (F.held shelf.old (file_of task)) (λ bytes. IsChecked bytes text status)) }
     ensures write_fault_line { result ≡ 6 →
         Says (E.taken err.old) (E.taken err.new) (E.faults err.old) (E.faults err.new) write_fault_line }
 
@@ -73,22 +81,23 @@ pub fn run<F: Shelf, O: Sink, E: Sink>(
     ensures no_memory_line { result ≡ 7 →
         Says (E.taken err.old) (E.taken err.new) (E.faults err.old) (E.faults err.new) no_memory_line }
 
-    // `out` is written to at 0 and 6 alone.
-    ensures out_untouched { result ≢ 0 → result ≢ 6 → out.new ≡ out.old }
+    // `out` is written to at 0, 1 and 6 alone.
+    ensures out_untouched { result ≢ 0 → result ≢ 1 → result ≢ 6 → out.new ≡ out.old }
 
-    // Where the words mean a command and no call on the shelf or `out` failed, the answer is 0 for
-    // bytes that are accepted, 3 for all others, or want of memory. A fault of `err` changes nothing.
+    // Where the words mean a command and no call on the shelf or `out` failed, the answer is 0 or 1
+    // for bytes that are accepted, 3 for those that have a fault, or want of memory. A fault of `err`
+    // changes nothing.
     ensures complete { task_of words.now ≢ None
         → IsQuiet (F.faults shelf.old) (F.faults shelf.new)
         → IsQuiet (O.faults out.old) (O.faults out.new)
-        → (result ≡ 0) ⊎ (result ≡ 3) ⊎ (result ≡ 7) }
+        → (result ≡ 0) ⊎ (result ≡ 1) ⊎ (result ≡ 3) ⊎ (result ≡ 7) }
     ensures complete_accepted { IsQuiet (F.faults shelf.old) (F.faults shelf.new)
         → IsQuiet (O.faults out.old) (O.faults out.new)
         → OfFile (task_of words.now) (F.held shelf.old) (λ bytes.
-        Accepted bytes → (result ≡ 0) ⊎ (result ≡ 7)) }
+        Accepted bytes → (result ≡ 0) ⊎ (result ≡ 1) ⊎ (result ≡ 7)) }
     ensures complete_refused { IsQuiet (F.faults shelf.old) (F.faults shelf.new)
         → OfFile (task_of words.now) (F.held shelf.old) (λ bytes.
-        ¬ Accepted bytes → (result ≡ 3) ⊎ (result ≡ 7)) }
+        Refused bytes → (result ≡ 3) ⊎ (result ≡ 7)) }
 
     // What the shelf holds and admits stays as it was, and no count of faults falls.
     ensures held { (n : List ℕ) → F.held shelf.new n ≡ F.held shelf.old n }
@@ -97,13 +106,17 @@ pub fn run<F: Shelf, O: Sink, E: Sink>(
     ensures out_later { O.faults out.old ≤ O.faults out.new }
     ensures err_later { E.faults err.old ≤ E.faults err.new }
 {
+    accepted_has_no_fault();
     let Some(command) = parse_words(words) else {
         say_usage(err);
         return 4;
     };
     match outcome_of(alloc, command, shelf) {
-        Outcome::Done(text) => match write_all(out, text.as_slice()) {
-            Ok(()) => 0,
+        Outcome::Done(report) => match write_all(out, report.text.as_slice()) {
+            Ok(()) => match report.ending {
+                Ending::Proved => 0,
+                Ending::Refuted => 1,
+            },
             Err(Failed) => {
                 say_write_fault(err);
                 6

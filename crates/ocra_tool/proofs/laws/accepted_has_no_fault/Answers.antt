@@ -1,0 +1,5 @@
+use Rattle.ocra_tool.proofs.Excluded.{accepted_has_no_fault}
+use Rattle.ocra_tool.proofs.laws.accepted_has_no_fault.Goals as goal
+
+pub returns : goal.returns
+returns c = accepted_has_no_fault c.one_token_list.ensures c.tokens_without_fault.ensures
