@@ -1,8 +1,123 @@
-ghost use Rattle.std.specs.Prelude.{◌≡◌, [], ◌∷◌, ◌++◌, ◌↔◌, IsTrue, IfOk, OnOk, OnErr, length, string_bytes};
+//! Names, and lists that contracts see as plain lists: of names, of bytes, of sets and of whatever a crate
+//! above keeps. They touch memory alone.
+
+ghost use Rattle.std.specs.Prelude.{◌≡◌, [], ◌∷◌, ◌++◌, ◌↔◌, IsTrue, IfOk, OnOk, OnErr, All, Contains, length, string_bytes};
 
 use crate::memory::NoMemory;
+use crate::sets::Set24;
 use std::alloc::Global;
 use std::marker::Model;
+
+/// What can be copied where memory can be had. A copy equals what it copies.
+pub trait TryCopy: Drop + Sized {
+    fn try_copy(&self) -> Result<Self, NoMemory>
+        ensures { IfOk result (λ copy. copy ≡ self.now) };
+}
+
+/// Items in order. Contracts see the list of them, so a copy equals what it copies.
+#[derive(Debug, Drop)]
+pub struct ListOf<T> {
+    items: Vec<T>,
+}
+
+impl<T> Model for ListOf<T> {
+    ghost use Rattle.std.specs.Prelude.{List};
+    ghost use Rattle.std.specs.Coded.{coded_list};
+
+    ghost Value = { List T };
+
+    ghost coded = { coded_list T.code };
+
+    ghost view = { λ l. l.items.items };
+}
+
+impl<T> ListOf<T> {
+    pub fn new(alloc: Global) -> ListOf<T>
+        ensures { result ≡ [] }
+    {
+        ListOf {
+            items: Vec::new(alloc),
+        }
+    }
+
+    pub fn from_vec(items: Vec<T>) -> ListOf<T>
+        ensures { result ≡ items.items }
+    {
+        ListOf { items }
+    }
+
+    pub fn into_vec(self) -> Vec<T>
+        ensures { result.items ≡ self }
+    {
+        let ListOf { items } = self;
+        items
+    }
+
+    pub fn as_slice(&self) -> &[T]
+        ensures { result.now ≡ self.now }
+    {
+        self.items.as_slice()
+    }
+
+    pub fn len(&self) -> usize
+        ensures { result ≡ length self.now }
+    {
+        self.items.len()
+    }
+
+    pub fn is_empty(&self) -> bool
+        ensures { IsTrue result ↔ (self.now ≡ []) }
+    {
+        self.items.is_empty()
+    }
+}
+
+impl<T: Drop> ListOf<T> {
+    /// Puts an item at the end.
+    pub fn push(&mut self, item: T) -> Result<(), NoMemory>
+        ensures ok { OnOk result (self.new ≡ self.old ++ item ∷ []) }
+        ensures err { OnErr result (self.new ≡ self.old) }
+    {
+        self.items.push(item)?;
+        Ok(())
+    }
+}
+
+impl<T: TryCopy> ListOf<T> {
+    pub fn copy(&self) -> Result<ListOf<T>, NoMemory>
+        ensures { IfOk result (λ copy. copy ≡ self.now) }
+    {
+        let items = copies(*self.items.allocator(), self.items.as_slice())?;
+        Ok(ListOf { items })
+    }
+}
+
+impl<T: TryCopy> TryCopy for ListOf<T> {
+    fn try_copy(&self) -> Result<ListOf<T>, NoMemory> {
+        self.copy()
+    }
+}
+
+fn copies<T: TryCopy>(alloc: Global, items: &[T]) -> Result<Vec<T>, NoMemory>
+    ensures { IfOk result (λ copy. copy.items ≡ items.now) }
+{
+    let mut copies = Vec::new(alloc);
+    for item in items {
+        copies.push(item.try_copy()?)?;
+    }
+    Ok(copies)
+}
+
+impl<T: Copy + Drop> ListOf<T> {
+    /// Puts items at the end.
+    pub fn append(&mut self, more: &[T]) -> Result<(), NoMemory>
+        ensures ok { OnOk result (self.new ≡ self.old ++ more.now) }
+        ensures err { OnErr result (self.new ≡ self.old) }
+    {
+        self.items.extend_from_slice(more)?;
+        Ok(())
+    }
+}
 
 /// A name: a text that contracts see as the list of its bytes, in UTF-8.
 #[derive(Debug, Drop)]
@@ -58,181 +173,39 @@ impl Name {
     }
 }
 
-/// Names in order. Contracts see the list of them.
-#[derive(Debug, Drop)]
-pub struct Names {
-    names: Vec<Name>,
-}
-
-impl Model for Names {
-    ghost use Rattle.std.specs.Prelude.{List, ℕ};
-
-    ghost Value = { List (List ℕ) };
-
-    ghost view = { λ n. n.names.items };
-}
-
-impl Names {
-    pub fn new(alloc: Global) -> Names
-        ensures { result ≡ [] }
-    {
-        Names {
-            names: Vec::new(alloc),
-        }
-    }
-
-    pub fn from_vec(names: Vec<Name>) -> Names
-        ensures { result ≡ names.items }
-    {
-        Names { names }
-    }
-
-    pub fn into_vec(self) -> Vec<Name>
-        ensures { result.items ≡ self }
-    {
-        let Names { names } = self;
-        names
-    }
-
-    pub fn as_slice(&self) -> &[Name]
-        ensures { result.now ≡ self.now }
-    {
-        self.names.as_slice()
-    }
-
-    pub fn len(&self) -> usize
-        ensures { result ≡ length self.now }
-    {
-        self.names.len()
-    }
-
-    pub fn is_empty(&self) -> bool
-        ensures { IsTrue result ↔ (self.now ≡ []) }
-    {
-        self.names.is_empty()
-    }
-
-    pub fn push(&mut self, name: Name) -> Result<(), NoMemory>
-        ensures ok { OnOk result (self.new ≡ self.old ++ name ∷ []) }
-        ensures err { OnErr result (self.new ≡ self.old) }
-    {
-        self.names.push(name)?;
-        Ok(())
-    }
-
-    pub fn copy(&self) -> Result<Names, NoMemory>
-        ensures { IfOk result (λ copy. copy ≡ self.now) }
-    {
-        let names = copies(*self.names.allocator(), self.names.as_slice())?;
-        Ok(Names { names })
+impl TryCopy for Name {
+    fn try_copy(&self) -> Result<Name, NoMemory> {
+        self.copy()
     }
 }
 
-fn copies(alloc: Global, names: &[Name]) -> Result<Vec<Name>, NoMemory>
-    ensures { IfOk result (λ copy. copy.items ≡ names.now) }
+/// Names in order.
+pub type Names = ListOf<Name>;
+
+/// Bytes in order.
+pub type Bytes = ListOf<u8>;
+
+/// The bytes of a text that is written out.
+pub type Text = ListOf<u8>;
+
+/// Sets in order.
+pub type Sets = ListOf<Set24>;
+
+/// Whether a name is one of these.
+pub(crate) fn is_among(name: &Name, names: &[Name]) -> bool
+    ensures { IsTrue result ↔ Contains names.now name.now }
 {
-    let mut copies = Vec::new(alloc);
+    names.iter().any(|other| other.same(name))
+}
+
+/// Whether each name is one of the others.
+pub(crate) fn are_among(names: &[Name], others: &[Name]) -> bool
+    ensures { IsTrue result ↔ All (Contains others.now) names.now }
+{
     for name in names {
-        copies.push(name.copy()?)?;
-    }
-    Ok(copies)
-}
-
-/// Bytes in order. Contracts see the list of them.
-#[derive(Debug, Drop)]
-pub struct Bytes {
-    bytes: Vec<u8>,
-}
-
-impl Model for Bytes {
-    ghost use Rattle.std.specs.Prelude.{List, ℕ};
-
-    ghost Value = { List ℕ };
-
-    ghost view = { λ b. b.bytes.items };
-}
-
-impl Bytes {
-    pub fn from_vec(bytes: Vec<u8>) -> Bytes
-        ensures { result ≡ bytes.items }
-    {
-        Bytes { bytes }
-    }
-
-    pub fn into_vec(self) -> Vec<u8>
-        ensures { result.items ≡ self }
-    {
-        let Bytes { bytes } = self;
-        bytes
-    }
-
-    pub fn as_slice(&self) -> &[u8]
-        ensures { result.now ≡ self.now }
-    {
-        self.bytes.as_slice()
-    }
-
-    pub fn len(&self) -> usize
-        ensures { result ≡ length self.now }
-    {
-        self.bytes.len()
-    }
-}
-
-/// A text that is written out. Contracts see the list of its bytes.
-#[derive(Debug, Drop)]
-pub struct Text {
-    bytes: Vec<u8>,
-}
-
-impl Model for Text {
-    ghost use Rattle.std.specs.Prelude.{List, ℕ};
-
-    ghost Value = { List ℕ };
-
-    ghost view = { λ t. t.bytes.items };
-}
-
-impl Text {
-    pub fn new(alloc: Global) -> Text
-        ensures { result ≡ [] }
-    {
-        Text {
-            bytes: Vec::new(alloc),
+        if !is_among(name, others) {
+            return false;
         }
     }
-
-    pub fn from_vec(bytes: Vec<u8>) -> Text
-        ensures { result ≡ bytes.items }
-    {
-        Text { bytes }
-    }
-
-    pub fn into_vec(self) -> Vec<u8>
-        ensures { result.items ≡ self }
-    {
-        let Text { bytes } = self;
-        bytes
-    }
-
-    pub fn as_slice(&self) -> &[u8]
-        ensures { result.now ≡ self.now }
-    {
-        self.bytes.as_slice()
-    }
-
-    pub fn len(&self) -> usize
-        ensures { result ≡ length self.now }
-    {
-        self.bytes.len()
-    }
-
-    /// Puts bytes at the end.
-    pub fn append(&mut self, more: &[u8]) -> Result<(), NoMemory>
-        ensures ok { OnOk result (self.new ≡ self.old ++ more.now) }
-        ensures err { OnErr result (self.new ≡ self.old) }
-    {
-        self.bytes.extend_from_slice(more)?;
-        Ok(())
-    }
+    true
 }

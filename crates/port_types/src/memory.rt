@@ -1,3 +1,5 @@
+//! Want of memory. It touches nothing.
+
 use std::alloc::{AllocError, AllocFailed};
 
 /// Memory could not be had. A call that answers it leaves what it was lent by `&mut` as it was,

@@ -1,3 +1,8 @@
+//! Counters of steps, lent to code whose steps are bounded by a contract. They touch nothing else.
+
+ghost use Rattle.std.specs.Prelude.{◌≡◌};
+ghost use Rattle.port_types.specs.Counts.{next_count};
+
 use std::marker::{Model, PhantomData};
 
 /// Names a count of steps. It has no calls.
@@ -19,6 +24,34 @@ impl<L: StepLedger> Model for Steps<L> {
     ghost Value = { ℕ };
 
     ghost view = { λ s. s.count };
+}
+
+impl<L: StepLedger> Steps<L> {
+    /// Counts one step more; at 2^64 - 1 the count stays.
+    pub fn tick(&mut self)
+        ensures { self.new ≡ next_count self.old }
+    {
+        self.count = self.count.saturating_add(1);
+    }
+
+    /// The number of steps so far.
+    pub fn count(&self) -> u64
+        ensures { result ≡ self.now }
+    {
+        self.count
+    }
+}
+
+impl Steps<OneRun> {
+    /// A count that begins at 0.
+    pub fn start() -> Steps<OneRun>
+        ensures { result ≡ 0 }
+    {
+        Steps {
+            count: 0,
+            ledger: PhantomData,
+        }
+    }
 }
 
 /// The ledger of one run.

@@ -23,15 +23,15 @@ fn copies_equal_what_they_copy(rt: HostRuntime) -> Result<(), Fail> {
     assert_eq!(rt; joined.as_slice(), b"openshut".as_slice());
     assert_eq!(rt; joined.len(), 8);
 
-    let range = PortType::Range { lo: -3, hi: 4 }.copy(alloc)?;
+    let range = PortType::Range { lo: -3, hi: 4 }.copy()?;
     assert!(rt; matches!(range, PortType::Range { lo: -3, hi: 4 }));
-    let choice = PortType::Enum(names).copy(alloc)?;
+    let choice = PortType::Enum(names).copy()?;
     assert!(rt; matches!(&choice, PortType::Enum(names) if names.len() == 2));
-    assert!(rt; matches!(PortType::Bool.copy(alloc)?, PortType::Bool));
-    assert!(rt; matches!(Value::Int(-7).copy(alloc)?, Value::Int(-7)));
-    assert!(rt; matches!(Value::Bool(true).copy(alloc)?, Value::Bool(true)));
+    assert!(rt; matches!(PortType::Bool.copy()?, PortType::Bool));
+    assert!(rt; matches!(Value::Int(-7).copy()?, Value::Int(-7)));
+    assert!(rt; matches!(Value::Bool(true).copy()?, Value::Bool(true)));
     assert!(rt;
-        matches!(Value::Name(valve).copy(alloc)?, Value::Name(name) if name.as_str().len() == 5)
+        matches!(Value::Name(valve).copy()?, Value::Name(name) if name.as_str().len() == 5)
     );
     Ok(())
 }
@@ -50,7 +50,7 @@ fn lists_take_and_give_back(rt: HostRuntime) -> Result<(), Fail> {
     assert_eq!(rt; names.into_vec().len(), 0);
 
     let mut sets = Sets::new(alloc);
-    sets.push(Set24 { bits: 5 })?;
+    sets.push(Set24::empty().with(0).with(2))?;
     assert_eq!(rt; sets.len(), 1);
     for set in sets.as_slice() {
         assert_eq!(rt; set.bits, 5);

@@ -1,0 +1,3 @@
+mod BitLaws
+mod IntervalLaws
+mod ValueLaws
