@@ -1,6 +1,10 @@
-use Rattle.std.specs.Prelude.{ℕ, List, codes}
+-- Kinds of fault, their numbers and their words, and what is said of a fault that a call answers.
+use Rattle.std.specs.Prelude.{ℕ, List, Result, Ok, Err, codes}
+use Rattle.oss_base.specs.declared.fault.Fault.{Fault}
 use Rattle.oss_base.specs.declared.fault.FaultKind.{FaultKind}
 use Rattle.oss_base.specs.declared.fault.FaultKind.TheVariants.{F0, F1, F2, F3, F4, F5, F6, F7, F8, F9, F10, F11, F12, F13, F14, F15, F16, F17, F18, F19, F20, F21, F22, F23, F24, F25, F26, F27, F28, F29, F30}
+use Rattle.oss_base.specs.declared.fault.Stop.{Stop}
+use Rattle.oss_base.specs.declared.fault.Stop.TheVariants as stops
 
 -- The number of a kind of fault, which is printed after the letter F.
 abbrev pub fault_number : FaultKind → ℕ
@@ -69,3 +73,9 @@ fault_text F27 = codes "too many sub-contracts"
 fault_text F28 = codes "level too large"
 fault_text F29 = codes "too many value bits"
 fault_text F30 = codes "too many guards"
+
+-- A fact of the fault that a call answers; nothing is said where it answers a value or wants memory.
+abbrev pub IfFault : {T : Type 0} → Result T Stop → (Fault → Type 0) → Type 0
+IfFault (Ok _) P = Unit {0}
+IfFault (Err (stops.Fault fault)) P = P fault
+IfFault (Err stops.NoMemory) P = Unit {0}

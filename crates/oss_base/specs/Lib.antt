@@ -1,2 +1,5 @@
-pub mod Places
 pub mod Faults
+pub mod FirstFaults
+pub mod Limits
+pub mod Places
+pub mod Sites

@@ -1,3 +1,4 @@
+-- Places in a text: the line and the column of an offset in bytes.
 use Rattle.std.specs.Prelude.{ℕ, ◌+◌, ◌==◌, Bool, not, List, count_by}
 use Rattle.std.specs.List.{suffix_len}
 use Rattle.oss_base.specs.declared.place.Place.{Place}

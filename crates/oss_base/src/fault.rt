@@ -1,3 +1,5 @@
+//! Kinds of fault with their numbers and words, and why a call on a file stops. No call touches memory.
+
 ghost use Rattle.std.specs.Prelude.{◌≡◌};
 ghost use Rattle.oss_base.specs.Faults.{fault_number, fault_text};
 

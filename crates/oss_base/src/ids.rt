@@ -1,3 +1,5 @@
+//! Numbers by which the parts of a specification are named. They have no calls.
+
 /// The place of a component in the list of components, counted from 0.
 #[derive(Clone, Copy, Debug, PartialEq, Eq)]
 pub struct ComponentId(pub u32);

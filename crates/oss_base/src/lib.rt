@@ -1,56 +1,24 @@
-//! Places in a text, faults of a file, and the typed numbers by which the parts of a specification
-//! are named.
+//! Places in a text, faults of a file and the first of them, the limits of the language, and the typed
+//! numbers by which the parts of a specification are named.
 #![tactic(auto)]
 
 mod fault;
+mod first_site;
 mod ids;
+mod laws;
+mod limits;
 mod place;
+mod sites;
+#[cfg(test)]
+mod tests;
 
 pub use fault::{Fault, FaultKind, Stop};
+pub use first_site::FirstSite;
 pub use ids::{ComponentId, ContractId, InstanceId, ItemId, SubId};
+pub use laws::{first_is_least, first_of_both, numbers_tell_kinds};
+pub use limits::{
+    LARGEST_NUMERAL, MOST_BYTES, MOST_CLOSURE_MEMBERS, MOST_COMPONENTS, MOST_GUARDS, MOST_HEIGHT,
+    MOST_INSTANCES, MOST_LEVEL_SIZE, MOST_PARTS, MOST_VALUE_BITS, limits_of_files,
+};
 pub use place::{Place, Span, place_of};
-
-#[cfg(test)]
-mod tests {
-    use super::*;
-    use port_types::NoMemory;
-
-    #[test]
-    fn places_in_a_small_text(rt: HostRuntime) {
-        let text = b"ab\n\r\n\n  c";
-        let expected = [
-            (0, 1, 1),
-            (1, 1, 2),
-            (2, 1, 3),
-            (3, 2, 1),
-            (4, 2, 2),
-            (5, 3, 1),
-            (6, 4, 1),
-            (8, 4, 3),
-            (9, 4, 4),
-        ];
-        for (offset, line, column) in expected {
-            assert_eq!(rt;
-                place_of(text, offset),
-                Place { line, column },
-                "at {offset}"
-            );
-        }
-    }
-
-    #[test]
-    fn numbers_and_words_of_faults(rt: HostRuntime) {
-        let expected = [
-            (FaultKind::F0, 0, "not built yet"),
-            (FaultKind::F2, 2, "bad byte"),
-            (FaultKind::F7, 7, "no system component"),
-            (FaultKind::F11, 11, "component contains itself"),
-            (FaultKind::F30, 30, "too many guards"),
-        ];
-        for (kind, number, text) in expected {
-            assert_eq!(rt; kind.number(), number);
-            assert_eq!(rt; kind.text(), text);
-        }
-        assert_eq!(rt; Stop::from(NoMemory), Stop::NoMemory);
-    }
-}
+pub use sites::FaultSite;

@@ -1,4 +1,7 @@
+//! Places in a text. No call touches memory.
+
 ghost use Rattle.std.specs.Prelude.{◌≡◌, ◌≤◌, length, take};
+ghost use Rattle.oss_base.specs.Limits.{most_bytes};
 ghost use Rattle.oss_base.specs.Places.{place_after};
 
 /// A place in a text: a line, counted from 1 by the line feeds before it, and a column, counted from
@@ -19,7 +22,7 @@ pub struct Span {
 /// The place of the byte at `offset`, or of the end of the text where `offset` is its length.
 pub fn place_of(bytes: &[u8], offset: usize) -> Place
     requires inside { offset ≤ length bytes.now }
-    requires short { length bytes.now ≤ 4194304 }
+    requires short { length bytes.now ≤ most_bytes }
     ensures { result ≡ place_after (take offset bytes.now) }
 {
     let mut line = 1;
