@@ -1,11 +1,12 @@
 -- What a call may say of the world outside: a count of faults that rises, and bytes that are taken.
--- The meanings of bytes that are left or taken are optional (None: not told), as those of std's readers and writers are.
-use Rattle.std.specs.Prelude.{ℕ, ◌+◌, ◌-◌, ◌^◌, ◌<◌, ◌≤◌, min, List, take, Option, Result, OnErr}
+-- The meanings of bytes that are left or taken are optional (None: not told), as those of the readers and writers
+-- of the library are.
+use Rattle.std.specs.Prelude.{◌≡◌, ℕ, ◌-◌, ◌^◌, ◌<◌, ◌≤◌, List, take, Option, Result, OnErr}
 use Rattle.std.specs.Io.KnownBytes.{Appends}
 
--- A count of faults has risen, or it stood at the end of a 64 bit count before, where it has to stay.
+-- A count of faults is greater than before, or it stood at the end of a 64 bit count before, where it stays.
 abbrev pub Rose : ℕ → ℕ → Type 0
-Rose before now = min (before + 1) (2 ^ 64 - 1) ≤ now
+Rose before now = (before ≤ now) × (now ≡ before → before ≡ 2 ^ 64 - 1)
 
 -- The count never falls, and an error comes only where it has risen: what fails is the outside and not the code.
 pub record HasCause {T E : Type 0} (before now : ℕ) (result : Result T E) : Type 0 where

@@ -1,3 +1,5 @@
+//! Reads a whole file from a shelf (`read_all`). It touches the shelf, and memory for the bytes.
+
 ghost use Rattle.std.specs.Prelude.{◌≡◌, ◌<◌, ◌≤◌, ◌↔◌, List, ℕ, length, IfOk, IfSome, IsErrOf};
 ghost use Rattle.oss_io.specs.Outside.{Rose};
 ghost use Rattle.oss_io.specs.declared.reading.ReadStop.TheVariants.{NoMemory as out_of_memory, Failed as call_failed};
@@ -52,7 +54,8 @@ pub fn read_all<F: Shelf>(
 
     ensures whole { IfOk result (λ bytes. IfSome (F.held shelf.old name.now) (λ held. bytes ≡ held)) }
     ensures limit { IfOk result (λ bytes. length bytes ≤ limit) }
-    ensures too_long { IsErrOf result ReadStop.TooLong → IfSome (F.held shelf.old name.now) (λ held. limit < length held) }
+    ensures too_long { IsErrOf result ReadStop.TooLong
+        → IfSome (F.held shelf.old name.now) (λ held. limit < length held) }
     ensures failed { IsErrOf result ReadStop.Failed → Rose (F.faults shelf.old) (F.faults shelf.new) }
 
     ensures held { (n : List ℕ) → F.held shelf.new n ≡ F.held shelf.old n }

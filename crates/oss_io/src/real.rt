@@ -1,3 +1,6 @@
+//! The files and streams of the system as a shelf and sinks. This is the only file here that
+//! touches them.
+
 ghost use Rattle.std.specs.Prelude.{◌≡◌, [], length, None, IfOk};
 ghost use Rattle.oss_io.specs.Outside.{HasCause, Takes};
 

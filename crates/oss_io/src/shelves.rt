@@ -1,16 +1,20 @@
+//! Shelves in memory, one that never fails and one on which chosen calls fail. They touch nothing
+//! outside.
+
 ghost use Rattle.std.specs.Prelude.{◌≡◌, ◌↔◌, ◌⊎◌, ◌+◌, ◌^◌, ◌<◌, List, ℕ, [], length, min, take, drop, Contains, Some, None, is_some, IsTrue, IsOk, IsErr, IfOk, OnOk, OnErr, if◌then◌else◌, is_ok};
 ghost use Rattle.std.specs.Io.{ReadsAtMost};
 ghost use Rattle.std.specs.Io.KnownBytes.{IsAtEnd, ReadConsumes};
 ghost use Rattle.oss_io.specs.Outside.{HasCause};
-ghost use Rattle.oss_io.specs.Stored.{next_count, place_of, bytes_from, bytes_or_empty, file_bytes};
+ghost use Rattle.port_types.specs.Counts.{next_count};
+ghost use Rattle.oss_io.specs.Stored.{file_place, bytes_from, bytes_or_empty, file_bytes};
 
-use crate::lists::{Files, Numbers};
+use crate::lists::{Files, Numbers, is_listed};
 use crate::outside::{Failed, Shelf};
 use port_types::{Bytes, Name};
 
 // The place of the first file of this name.
 fn place(files: &[(Name, Bytes)], name: &str) -> Option<usize>
-    ensures { result ≡ place_of files.now name.now }
+    ensures { result ≡ file_place files.now name.now }
 {
     files.iter().position(|file| file.0.as_str() == name)
 }
@@ -59,7 +63,7 @@ impl SteadyShelf {
 
     // Begins to read the file of this name, and says whether there is one.
     fn begin(&mut self, name: &str) -> bool
-        ensures found { result ≡ is_some (place_of (steady_files self.old) name.now) }
+        ensures found { result ≡ is_some (file_place (steady_files self.old) name.now) }
         ensures left { steady_left self.new ≡ bytes_or_empty (steady_files self.old) name.now }
         ensures files { steady_files self.new ≡ steady_files self.old }
     {
@@ -169,7 +173,7 @@ impl MemoryShelf {
         ensures same { IsSameShelf self.old self.new }
     {
         self.calls = self.calls.saturating_add(1);
-        self.failing.contains(self.calls)
+        is_listed(self.failing.as_slice(), self.calls)
     }
 }
 
@@ -188,7 +192,8 @@ impl Shelf for MemoryShelf {
         ensures fails { IsErr result ↔ (Contains (shelf_failing self.old) (next_count (shelf_calls self.old))
             ⊎ (file_bytes (shelf_files self.old) name.now ≡ None)) }
         ensures calls { shelf_calls self.new ≡ next_count (shelf_calls self.old) }
-        ensures faults { shelf_faults self.new ≡ (if is_ok result then shelf_faults self.old else next_count (shelf_faults self.old)) }
+        ensures faults { shelf_faults self.new
+            ≡ (if is_ok result then shelf_faults self.old else next_count (shelf_faults self.old)) }
         ensures same { IsSameShelf self.old self.new }
 
         // what the trait says
@@ -208,10 +213,12 @@ impl Shelf for MemoryShelf {
 
     fn read(&mut self, into: &mut [u8]) -> Result<usize, Failed>
         ensures fails { IsErr result ↔ Contains (shelf_failing self.old) (next_count (shelf_calls self.old)) }
-        ensures count { IfOk result (λ n. n ≡ min (min (length into.old) (shelf_piece self.old)) (length (shelf_left self.old))) }
+        ensures count { IfOk result (λ n.
+            n ≡ min (min (length into.old) (shelf_piece self.old)) (length (shelf_left self.old))) }
         ensures left { IfOk result (λ n. shelf_left self.new ≡ drop n (shelf_left self.old)) }
         ensures calls { shelf_calls self.new ≡ next_count (shelf_calls self.old) }
-        ensures faults { shelf_faults self.new ≡ (if is_ok result then shelf_faults self.old else next_count (shelf_faults self.old)) }
+        ensures faults { shelf_faults self.new
+            ≡ (if is_ok result then shelf_faults self.old else next_count (shelf_faults self.old)) }
         ensures same { IsSameShelf self.old self.new }
 
         // what the trait says

@@ -1,9 +1,12 @@
+//! Sinks in memory, one with a room and chosen failures and one that only counts. They touch
+//! nothing outside.
+
 ghost use Rattle.std.specs.Prelude.{◌≡◌, ◌↔◌, ◌⊎◌, ◌<◌, ◌≤◌, ◌+◌, ◌-◌, ◌^◌, [], length, min, if◌then◌else◌, is_ok, Contains, Some, None, IsErr, IfOk, OnOk, OnErr, vec_len, vec_capacity};
 ghost use Rattle.std.specs.Io.KnownBytes.{WriteAppends};
 ghost use Rattle.oss_io.specs.Outside.{HasCause, Takes};
-ghost use Rattle.oss_io.specs.Stored.{next_count};
+ghost use Rattle.port_types.specs.Counts.{next_count};
 
-use crate::lists::Numbers;
+use crate::lists::{Numbers, is_listed};
 use crate::outside::{Failed, Sink};
 use port_types::NoMemory;
 use std::alloc::Global;
@@ -70,10 +73,13 @@ impl Sink for MemorySink {
 
     fn write(&mut self, piece: &[u8]) -> Result<usize, Failed>
         ensures fails { IsErr result ↔ ((0 < length piece.now)
-            × (Contains (sink_failing self.old) (next_count (sink_writes self.old)) ⊎ (length (sink_taken self.old) ≡ sink_room self.old))) }
-        ensures amount { IfOk result (λ n. n ≡ min (min (length piece.now) (sink_piece self.old)) (sink_room self.old - length (sink_taken self.old))) }
+            × (Contains (sink_failing self.old) (next_count (sink_writes self.old))
+            ⊎ (length (sink_taken self.old) ≡ sink_room self.old))) }
+        ensures amount { IfOk result (λ n. n
+            ≡ min (min (length piece.now) (sink_piece self.old)) (sink_room self.old - length (sink_taken self.old))) }
         ensures writes { sink_writes self.new ≡ next_count (sink_writes self.old) }
-        ensures faults { sink_faults self.new ≡ (if is_ok result then sink_faults self.old else next_count (sink_faults self.old)) }
+        ensures faults { sink_faults self.new
+            ≡ (if is_ok result then sink_faults self.old else next_count (sink_faults self.old)) }
         ensures same { IsSameSink self.old self.new }
 
         // what the trait says
@@ -88,7 +94,7 @@ impl Sink for MemorySink {
             return Ok(0);
         }
         let free = self.room - self.taken.len();
-        if free == 0 || self.failing.contains(self.writes) {
+        if free == 0 || is_listed(self.failing.as_slice(), self.writes) {
             self.faults = self.faults.saturating_add(1);
             return Err(Failed);
         }

@@ -1,3 +1,5 @@
+//! Reads and writes with a failing call at each place, in memory and on real files and streams.
+
 use super::*;
 use port_types::{Bytes, Name, NoMemory};
 use std::alloc::Global;
@@ -18,9 +20,9 @@ fn bytes(alloc: Global, bytes: &[u8]) -> Result<Bytes, NoMemory> {
 // A file `a` with the text above, another one of that name, and an empty file.
 fn files(alloc: Global) -> Result<Files, NoMemory> {
     let mut files = Files::new(alloc);
-    files.push(name(alloc, "a")?, bytes(alloc, TEXT)?)?;
-    files.push(name(alloc, "a")?, bytes(alloc, b"second")?)?;
-    files.push(name(alloc, "empty")?, bytes(alloc, b"")?)?;
+    files.push((name(alloc, "a")?, bytes(alloc, TEXT)?))?;
+    files.push((name(alloc, "a")?, bytes(alloc, b"second")?))?;
+    files.push((name(alloc, "empty")?, bytes(alloc, b"")?))?;
     Ok(files)
 }
 
@@ -112,7 +114,7 @@ fn a_large_file_is_read(rt: HostRuntime) -> Result<(), Fail> {
     let mut text = Vec::new(alloc);
     text.resize(4_194_304, b'x')?;
     let mut files = Files::new(alloc);
-    files.push(name(alloc, "large")?, Bytes::from_vec(text))?;
+    files.push((name(alloc, "large")?, Bytes::from_vec(text)))?;
     let mut shelf = SteadyShelf::new(files);
     let (number, bytes) = outcome(read_all(alloc, &mut shelf, "large", 4_194_304), alloc);
     assert_eq!(rt; number, 0);

@@ -1,3 +1,5 @@
+//! Writes all bytes to a sink (`write_all`). It touches the sink alone.
+
 ghost use Rattle.std.specs.Prelude.{OnOk, OnErr};
 ghost use Rattle.std.specs.Io.KnownBytes.{Appends};
 ghost use Rattle.oss_io.specs.Outside.{AppendsFront, HasCause};
