@@ -4,51 +4,52 @@ use Rattle.std.specs.List.{All}
 use Rattle.std.proofs.lemmas.Bool.{and_parts}
 use Rattle.std.proofs.lemmas.List.Elements.{All-nil, All-cons, All-weaker}
 use Rattle.cnf.specs.declared.lit.Lit.{Lit}
-use Rattle.cnf.specs.Clauses.{opposite, values, lit_holds, clauses_hold, IsModel, Means, Grows}
+use Rattle.cnf.specs.Clauses.{opposite, lit_values, lit_holds, clauses_hold, IsModel, Represents, IsConservative}
 use Rattle.std.proofs.Math.Seq.{drop-cons}
 use Rattle.std.specs.Prelude.{◌+ℤ◌, int_le}
-use Rattle.cnf.specs.Gates.{literal, xor, majority, signed, turned, and_clauses, xor_clauses, majority_clauses, greater_on, le_clauses, sum_on, sum_clauses, sum_bits_on, sum_bits}
-use Rattle.cnf.proofs.ModelLaws.{clauses_hold-append, clauses_hold-take, lit_holds-opposite, Grows_refl, Grows-defined, Grows-all}
+use Rattle.cnf.specs.Gates.{literal, xor, majority, and_clauses, xor_clauses, majority_clauses}
+use Rattle.cnf.specs.Arithmetic.{signed_number, comparison_pairs, later_greater_clauses, le_clauses, le_literal, later_sum_clauses, sum_clauses, later_sum_bits, sum_bits}
+use Rattle.cnf.proofs.ModelLaws.{clauses_hold-append, clauses_hold-take, lit_holds-opposite, IsConservative_refl, IsConservative-defined, IsConservative-all}
 use Rattle.cnf.proofs.GateLaws.{and_means, and_fits, xor_means, xor_fits, majority_means, majority_fits}
 use Rattle.cnf.proofs.NumberLaws.{greater_compares, at_least, sum_adds}
 
-pub Grows_same : (n m : ℕ) (older newer : List (List Lit)) → m ≡ n → newer ≡ older → Grows n older m newer
-Grows_same n m older newer e f = rw (e, f) (Grows_refl n older)
+pub IsConservative_same : (n m : ℕ) (older newer : List (List Lit)) → m ≡ n → newer ≡ older → IsConservative n older m newer
+IsConservative_same n m older newer e f = rw (e, f) (IsConservative_refl n older)
 
 -- the clauses of a gate hold in a model of the list that ends with them
 pub last_hold : (model : List Bool) (older gate newer : List (List Lit)) → newer ≡ older ++ gate → clauses_hold model newer ≡ true → clauses_hold model gate ≡ true
 last_hold model older gate newer e h = (and_parts (clauses_hold model older) (clauses_hold model gate) (sym (clauses_hold-append model older gate) ∙ (rw e at h))).1
 
-pub and_gate_means : (n m : ℕ) (older newer : List (List Lit)) (a b c : Lit) → a.var < n → b.var < n → m ≡ n + 1 → newer ≡ older ++ and_clauses n a b → c ≡ literal n → Means m newer c (λ model. lit_holds model a && lit_holds model b)
+pub and_gate_means : (n m : ℕ) (older newer : List (List Lit)) (a b c : Lit) → a.var < n → b.var < n → m ≡ n + 1 → newer ≡ older ++ and_clauses n a b → c ≡ literal n → Represents m newer c (λ model. lit_holds model a && lit_holds model b)
 and_gate_means n m older newer a b c la lb em en ec =
     λ model is. ap (lit_holds model) ec ∙ and_means model n a b (let w = is.vars in omega arith) (let w = is.vars in omega arith) (let w = is.vars in omega arith) (last_hold model older (and_clauses n a b) newer en is.holds)
 
 -- after a part of the first two clauses
-pub and_gate_begins : (n m v k : ℕ) (older mid newer : List (List Lit)) (a b nv : Lit) → a.var < n → b.var < n → m ≡ n + 1 → v ≡ n → nv ≡ opposite (literal v) → mid ≡ older → newer ≡ mid ++ take k ((nv ∷ a ∷ []) ∷ (nv ∷ b ∷ []) ∷ []) → Grows n older m newer
+pub and_gate_begins : (n m v k : ℕ) (older mid newer : List (List Lit)) (a b nv : Lit) → a.var < n → b.var < n → m ≡ n + 1 → v ≡ n → nv ≡ opposite (literal v) → mid ≡ older → newer ≡ mid ++ take k ((nv ∷ a ∷ []) ∷ (nv ∷ b ∷ []) ∷ []) → IsConservative n older m newer
 and_gate_begins n m v k older mid newer a b nv la lb em ev env emid en =
-    rw (em, en, emid, env, ev) (Grows-defined n older (take 2 (and_clauses n a b)) k (λ model e. let fit = and_fits n a b la lb model e in (fit.0, clauses_hold-take (model ++ fit.0 ∷ []) 2 (and_clauses n a b) fit.1)))
+    rw (em, en, emid, env, ev) (IsConservative-defined n older (take 2 (and_clauses n a b)) k (λ model e. let fit = and_fits n a b la lb model e in (fit.0, clauses_hold-take (model ++ fit.0 ∷ []) 2 (and_clauses n a b) fit.1)))
 
 pub and_gate_whole : (n v : ℕ) (older mid then newer : List (List Lit)) (a b na nb nv : Lit) → v ≡ n → nv ≡ opposite (literal v) → na ≡ opposite a → nb ≡ opposite b → mid ≡ older → then ≡ mid ++ (nv ∷ a ∷ []) ∷ (nv ∷ b ∷ []) ∷ [] → newer ≡ then ++ (literal v ∷ na ∷ nb ∷ []) ∷ [] → newer ≡ older ++ and_clauses n a b
 and_gate_whole n v older mid then newer a b na nb nv ev env ena enb emid et en =
     en ∙ rw (et, emid, env, ena, enb, ev) (append_assoc older _ _)
 
-pub gate_grows_whole : (n m : ℕ) (older newer gate : List (List Lit)) → ((model : List Bool) → length model ≡ n → (value : Bool) × (clauses_hold (model ++ value ∷ []) gate ≡ true)) → m ≡ n + 1 → newer ≡ older ++ gate → Grows n older m newer
-gate_grows_whole n m older newer gate fits em en = rw (em, en) (Grows-all n older gate fits)
+pub gate_grows_whole : (n m : ℕ) (older newer gate : List (List Lit)) → ((model : List Bool) → length model ≡ n → (value : Bool) × (clauses_hold (model ++ value ∷ []) gate ≡ true)) → m ≡ n + 1 → newer ≡ older ++ gate → IsConservative n older m newer
+gate_grows_whole n m older newer gate fits em en = rw (em, en) (IsConservative-all n older gate fits)
 
-pub xor_gate_means : (n m : ℕ) (older newer : List (List Lit)) (a b c : Lit) → a.var < n → b.var < n → m ≡ n + 1 → newer ≡ older ++ xor_clauses n a b → c ≡ literal n → Means m newer c (λ model. xor (lit_holds model a) (lit_holds model b))
+pub xor_gate_means : (n m : ℕ) (older newer : List (List Lit)) (a b c : Lit) → a.var < n → b.var < n → m ≡ n + 1 → newer ≡ older ++ xor_clauses n a b → c ≡ literal n → Represents m newer c (λ model. xor (lit_holds model a) (lit_holds model b))
 xor_gate_means n m older newer a b c la lb em en ec =
     λ model is. ap (lit_holds model) ec ∙ xor_means model n a b (let w = is.vars in omega arith) (let w = is.vars in omega arith) (let w = is.vars in omega arith) (last_hold model older (xor_clauses n a b) newer en is.holds)
 
 -- after a part of the clauses
 pub xor_gate_begins : (n m v k : ℕ) (older mid newer : List (List Lit)) (a b na nb nv : Lit) → a.var < n → b.var < n → m ≡ n + 1 → v ≡ n → nv ≡ opposite (literal v) → na ≡ opposite a → nb ≡ opposite b → mid ≡ older
-    → newer ≡ mid ++ take k ((nv ∷ a ∷ b ∷ []) ∷ (nv ∷ na ∷ nb ∷ []) ∷ (literal v ∷ na ∷ b ∷ []) ∷ (literal v ∷ a ∷ nb ∷ []) ∷ []) → Grows n older m newer
+    → newer ≡ mid ++ take k ((nv ∷ a ∷ b ∷ []) ∷ (nv ∷ na ∷ nb ∷ []) ∷ (literal v ∷ na ∷ b ∷ []) ∷ (literal v ∷ a ∷ nb ∷ []) ∷ []) → IsConservative n older m newer
 xor_gate_begins n m v k older mid newer a b na nb nv la lb em ev env ena enb emid en =
-    rw (em, en, emid, env, ena, enb, ev) (Grows-defined n older (xor_clauses n a b) k (xor_fits n a b la lb))
+    rw (em, en, emid, env, ena, enb, ev) (IsConservative-defined n older (xor_clauses n a b) k (xor_fits n a b la lb))
 
 pub majority_gate_begins : (n m v k : ℕ) (older mid newer : List (List Lit)) (a b c na nb nc nv : Lit) → a.var < n → b.var < n → c.var < n → m ≡ n + 1 → v ≡ n → nv ≡ opposite (literal v) → na ≡ opposite a → nb ≡ opposite b → nc ≡ opposite c → mid ≡ older
-    → newer ≡ mid ++ take k ((nv ∷ a ∷ b ∷ []) ∷ (nv ∷ a ∷ c ∷ []) ∷ (nv ∷ b ∷ c ∷ []) ∷ (literal v ∷ na ∷ nb ∷ []) ∷ (literal v ∷ na ∷ nc ∷ []) ∷ (literal v ∷ nb ∷ nc ∷ []) ∷ []) → Grows n older m newer
+    → newer ≡ mid ++ take k ((nv ∷ a ∷ b ∷ []) ∷ (nv ∷ a ∷ c ∷ []) ∷ (nv ∷ b ∷ c ∷ []) ∷ (literal v ∷ na ∷ nb ∷ []) ∷ (literal v ∷ na ∷ nc ∷ []) ∷ (literal v ∷ nb ∷ nc ∷ []) ∷ []) → IsConservative n older m newer
 majority_gate_begins n m v k older mid newer a b c na nb nc nv la lb lc em ev env ena enb enc emid en =
-    rw (em, en, emid, env, ena, enb, enc, ev) (Grows-defined n older (majority_clauses n a b c) k (majority_fits n a b c la lb lc))
+    rw (em, en, emid, env, ena, enb, enc, ev) (IsConservative-defined n older (majority_clauses n a b c) k (majority_fits n a b c la lb lc))
 
 pub xor_gate_whole : (n v : ℕ) (older mid newer : List (List Lit)) (a b na nb nv : Lit) → v ≡ n → nv ≡ opposite (literal v) → na ≡ opposite a → nb ≡ opposite b → mid ≡ older
     → newer ≡ mid ++ (nv ∷ a ∷ b ∷ []) ∷ (nv ∷ na ∷ nb ∷ []) ∷ (literal v ∷ na ∷ b ∷ []) ∷ (literal v ∷ a ∷ nb ∷ []) ∷ [] → newer ≡ older ++ xor_clauses n a b
@@ -76,76 +77,82 @@ Within-cons m c cs h hs = All-cons (All (λ lit. lit.var < m)) c cs h hs
 
 -- ---- comparisons
 
-pub turned_at_sign : (a b : List Lit) (i : ℕ) (d e : Lit) → length a ≡ length b → i + 1 ≡ length a → drop i (turned a b) ≡ (get_or b i e, get_or a i d) ∷ drop (suc i) (turned a b)
-turned_at_sign [] b i d e same at = absurd (omega arith)
-turned_at_sign (x ∷ left) [] i d e same at = absurd (omega arith)
-turned_at_sign (x ∷ []) (y ∷ right) zero d e same at = refl
-turned_at_sign (x ∷ []) (y ∷ right) (suc i) d e same at = absurd (omega arith)
-turned_at_sign (x ∷ x' ∷ left) (y ∷ right) zero d e same at = absurd (omega arith)
-turned_at_sign (x ∷ x' ∷ left) (y ∷ right) (suc i) d e same at = turned_at_sign (x' ∷ left) right i d e (omega arith) (omega arith)
+pub pairs_at_sign : (a b : List Lit) (i : ℕ) (d e : Lit) → length a ≡ length b → i + 1 ≡ length a → drop i (comparison_pairs a b) ≡ (get_or b i e, get_or a i d) ∷ drop (suc i) (comparison_pairs a b)
+pairs_at_sign [] b i d e same at = absurd (omega arith)
+pairs_at_sign (x ∷ left) [] i d e same at = absurd (omega arith)
+pairs_at_sign (x ∷ []) (y ∷ right) zero d e same at = refl
+pairs_at_sign (x ∷ []) (y ∷ right) (suc i) d e same at = absurd (omega arith)
+pairs_at_sign (x ∷ x' ∷ left) (y ∷ right) zero d e same at = absurd (omega arith)
+pairs_at_sign (x ∷ x' ∷ left) (y ∷ right) (suc i) d e same at = pairs_at_sign (x' ∷ left) right i d e (omega arith) (omega arith)
 
-pub turned_before_sign : (a b : List Lit) (i : ℕ) (d e : Lit) → length a ≡ length b → i + 1 < length a → drop i (turned a b) ≡ (get_or a i d, get_or b i e) ∷ drop (suc i) (turned a b)
-turned_before_sign [] b i d e same at = absurd (omega arith)
-turned_before_sign (x ∷ left) [] i d e same at = absurd (omega arith)
-turned_before_sign (x ∷ []) (y ∷ right) i d e same at = absurd (omega arith)
-turned_before_sign (x ∷ x' ∷ left) (y ∷ right) zero d e same at = refl
-turned_before_sign (x ∷ x' ∷ left) (y ∷ right) (suc i) d e same at = turned_before_sign (x' ∷ left) right i d e (omega arith) (omega arith)
+pub pairs_before_sign : (a b : List Lit) (i : ℕ) (d e : Lit) → length a ≡ length b → i + 1 < length a → drop i (comparison_pairs a b) ≡ (get_or a i d, get_or b i e) ∷ drop (suc i) (comparison_pairs a b)
+pairs_before_sign [] b i d e same at = absurd (omega arith)
+pairs_before_sign (x ∷ left) [] i d e same at = absurd (omega arith)
+pairs_before_sign (x ∷ []) (y ∷ right) i d e same at = absurd (omega arith)
+pairs_before_sign (x ∷ x' ∷ left) (y ∷ right) zero d e same at = refl
+pairs_before_sign (x ∷ x' ∷ left) (y ∷ right) (suc i) d e same at = pairs_before_sign (x' ∷ left) right i d e (omega arith) (omega arith)
 
-pub length-turned : (a b : List Lit) → length a ≡ length b → length (turned a b) ≡ length a
-length-turned [] b same = refl
-length-turned (x ∷ left) [] same = absurd (omega arith)
-length-turned (x ∷ []) (y ∷ right) same = refl
-length-turned (x ∷ x' ∷ left) (y ∷ right) same = ap suc (length-turned (x' ∷ left) right (omega arith))
+pub length-pairs : (a b : List Lit) → length a ≡ length b → length (comparison_pairs a b) ≡ length a
+length-pairs [] b same = refl
+length-pairs (x ∷ left) [] same = absurd (omega arith)
+length-pairs (x ∷ []) (y ∷ right) same = refl
+length-pairs (x ∷ x' ∷ left) (y ∷ right) same = ap suc (length-pairs (x' ∷ left) right (omega arith))
 
 -- one more place
-pub le_goes_on : (m m' : ℕ) (now later total : List (List Lit)) (ps rest : List (Lit × Lit)) (x y ny greater greater' : Lit) → ps ≡ (x, y) ∷ rest → ny ≡ opposite y → m' ≡ m + 1 → greater' ≡ literal m → later ≡ now ++ majority_clauses m x ny greater → now ++ greater_on m greater ps ≡ total → later ++ greater_on m' greater' rest ≡ total
+pub le_goes_on : (m m' : ℕ) (now later total : List (List Lit)) (ps rest : List (Lit × Lit)) (x y ny greater greater' : Lit) → ps ≡ (x, y) ∷ rest → ny ≡ opposite y → m' ≡ m + 1 → greater' ≡ literal m → later ≡ now ++ majority_clauses m x ny greater → now ++ later_greater_clauses m greater ps ≡ total → later ++ later_greater_clauses m' greater' rest ≡ total
 le_goes_on m m' now later total ps rest x y ny greater greater' ed ey em eg en et = rw (en, em, eg, ey) (append_assoc now _ _ ∙ (rw ed at et))
 
-pub le_means : (n m : ℕ) (older newer : List (List Lit)) (a b : List Lit) (answer greater : Lit) → length a ≡ length b → 0 < length a → All (λ lit. lit.var < n) a → All (λ lit. lit.var < n) b → m ≡ n + length a → greater ≡ literal (n + length a - 1) → answer ≡ opposite greater → newer ≡ older ++ le_clauses n a b → Means m newer answer (λ model. int_le (signed (values model a)) (signed (values model b)))
-le_means n m older newer [] b answer greater same some la lb em eg ea en = absurd (omega arith)
-le_means n m older newer (x ∷ left) [] answer greater same some la lb em eg ea en = absurd (omega arith)
-le_means n m older newer (x ∷ left) (y ∷ right) answer greater same some la lb em eg ea en =
-    λ model is.
-    let wide : length model ≡ n + length (x ∷ left) = is.vars ∙ em in
+pub le_says : (model : List Bool) (n : ℕ) (a b : List Lit) → 0 < length a → length a ≡ length b → n + length a ≤ length model → All (λ lit. lit.var < length model) a → All (λ lit. lit.var < length model) b → clauses_hold model (le_clauses n a b) ≡ true
+    → lit_holds model (le_literal n a) ≡ int_le (signed_number (lit_values model a)) (signed_number (lit_values model b))
+le_says model n [] b some same room la lb h = absurd (omega arith)
+le_says model n (x ∷ left) [] some same room la lb h = absurd (omega arith)
+le_says model n (x ∷ left) (y ∷ right) some same room la lb h =
     let k : ℕ = n + length (x ∷ left) - 1 in
+    lit_holds-opposite model (literal k) (omega arith)
+    ∙ ap not (greater_compares model n k x left y right (omega arith) (omega arith) (omega arith) la lb h)
+    ∙ at_least (signed_number (lit_values model (x ∷ left))) (signed_number (lit_values model (y ∷ right)))
+
+pub le_means : (n m : ℕ) (older newer : List (List Lit)) (a b : List Lit) (answer greater : Lit) → length a ≡ length b → 0 < length a → All (λ lit. lit.var < n) a → All (λ lit. lit.var < n) b
+    → m ≡ n + length a → greater ≡ literal (n + length a - 1) → answer ≡ opposite greater → newer ≡ older ++ le_clauses n a b → Represents m newer answer (λ model. int_le (signed_number (lit_values model a)) (signed_number (lit_values model b)))
+le_means n m older newer a b answer greater same some la lb em eg ea en =
+    λ model is.
+    let wide : length model ≡ n + length a = is.vars ∙ em in
     ap (lit_holds model) (ea ∙ ap opposite eg)
-    ∙ lit_holds-opposite model (literal k) (omega arith)
-    ∙ ap not (greater_compares model n k x left y right (omega arith) (omega arith) (omega arith)
-    (All-weaker (λ lit. lit.var < n) (λ lit. lit.var < length model) (λ lit h. omega arith) (x ∷ left) la)
-    (All-weaker (λ lit. lit.var < n) (λ lit. lit.var < length model) (λ lit h. omega arith) (y ∷ right) lb)
-    (last_hold model older (le_clauses n (x ∷ left) (y ∷ right)) newer en is.holds))
-    ∙ at_least (signed (values model (x ∷ left))) (signed (values model (y ∷ right)))
+    ∙ le_says model n a b some same (omega arith)
+    (All-weaker (λ lit. lit.var < n) (λ lit. lit.var < length model) (λ lit h. omega arith) a la)
+    (All-weaker (λ lit. lit.var < n) (λ lit. lit.var < length model) (λ lit h. omega arith) b lb)
+    (last_hold model older (le_clauses n a b) newer en is.holds)
 
 -- ---- sums
 
-pub sum_begins : (n v m : ℕ) (older now then : List (List Lit)) (a b : List Lit) (x y either carry : Lit) (left right : List Lit) → a ≡ x ∷ left → b ≡ y ∷ right → v ≡ n + 1 → m ≡ v + 1 → either ≡ literal n → carry ≡ literal v → then ≡ older ++ xor_clauses n x y → now ≡ then ++ and_clauses v x y → now ++ sum_on m either carry left right ≡ older ++ sum_clauses n a b
+pub sum_begins : (n v m : ℕ) (older now then : List (List Lit)) (a b : List Lit) (x y either carry : Lit) (left right : List Lit) → a ≡ x ∷ left → b ≡ y ∷ right → v ≡ n + 1 → m ≡ v + 1 → either ≡ literal n → carry ≡ literal v → then ≡ older ++ xor_clauses n x y → now ≡ then ++ and_clauses v x y → now ++ later_sum_clauses m either carry left right ≡ older ++ sum_clauses n a b
 sum_begins n v m older now then a b x y either carry left right ea eb ev em ee ec et en =
     let wide : m ≡ n + 2 = omega arith in
-    rw (en, et, ea, eb, wide, ee, ec, ev) (ap (λ l. l ++ sum_on (n + 2) (literal n) (literal (n + 1)) left right) (append_assoc older _ _) ∙ append_assoc older _ _)
+    rw (en, et, ea, eb, wide, ee, ec, ev) (ap (λ l. l ++ later_sum_clauses (n + 2) (literal n) (literal (n + 1)) left right) (append_assoc older _ _) ∙ append_assoc older _ _)
 
-pub sum_goes_on : (m m' : ℕ) (now later total : List (List Lit)) (a b left right : List Lit) (x y either carry either' carry' : Lit) → a ≡ x ∷ left → b ≡ y ∷ right → m' ≡ m + 3 → either' ≡ literal m → carry' ≡ literal (m + 2) → later ≡ now ++ (xor_clauses m x y ++ xor_clauses (m + 1) (literal m) carry ++ majority_clauses (m + 2) x y carry) → now ++ sum_on m either carry a b ≡ total → later ++ sum_on m' either' carry' left right ≡ total
+pub sum_goes_on : (m m' : ℕ) (now later total : List (List Lit)) (a b left right : List Lit) (x y either carry either' carry' : Lit) → a ≡ x ∷ left → b ≡ y ∷ right → m' ≡ m + 3 → either' ≡ literal m → carry' ≡ literal (m + 2) → later ≡ now ++ (xor_clauses m x y ++ xor_clauses (m + 1) (literal m) carry ++ majority_clauses (m + 2) x y carry) → now ++ later_sum_clauses m either carry a b ≡ total → later ++ later_sum_clauses m' either' carry' left right ≡ total
 sum_goes_on m m' now later total a b left right x y either carry either' carry' ea eb em ee ec en et = rw (en, em, ee, ec) (append_assoc now _ _ ∙ (rw (ea, eb) at et))
 
-pub sum_bits_go_on : (m m' : ℕ) (bits bits' total a left : List Lit) (x s : Lit) → a ≡ x ∷ left → m' ≡ m + 3 → s ≡ literal (m + 1) → bits' ≡ bits ++ s ∷ [] → bits ++ sum_bits_on m a ≡ total → bits' ++ sum_bits_on m' left ≡ total
+pub sum_bits_go_on : (m m' : ℕ) (bits bits' total a left : List Lit) (x s : Lit) → a ≡ x ∷ left → m' ≡ m + 3 → s ≡ literal (m + 1) → bits' ≡ bits ++ s ∷ [] → bits ++ later_sum_bits m a ≡ total → bits' ++ later_sum_bits m' left ≡ total
 sum_bits_go_on m m' bits bits' total a left x s ea em es eb et = rw (eb, em, es) (append_assoc bits _ _ ∙ (rw ea at et))
 
-pub sum_bits_within : (m n : ℕ) (a : List Lit) → n + 3 * length a < m → All (λ lit. lit.var < m) (sum_bits_on n a)
+pub sum_bits_within : (m n : ℕ) (a : List Lit) → n + 3 * length a < m → All (λ lit. lit.var < m) (later_sum_bits n a)
 sum_bits_within m n [] h = All-cons (λ lit. lit.var < m) (literal n) [] (omega arith) (All-nil (λ lit. lit.var < m))
-sum_bits_within m n (x ∷ left) h = All-cons (λ lit. lit.var < m) (literal (n + 1)) (sum_bits_on (n + 3) left) (omega arith) (sum_bits_within m (n + 3) left (omega arith))
+sum_bits_within m n (x ∷ left) h = All-cons (λ lit. lit.var < m) (literal (n + 1)) (later_sum_bits (n + 3) left) (omega arith) (sum_bits_within m (n + 3) left (omega arith))
 
 pub sum_within : (m n : ℕ) (a : List Lit) → n + 3 * length a ≤ m → All (λ lit. lit.var < m) (sum_bits n a)
 sum_within m n [] h = All-nil (λ lit. lit.var < m)
-sum_within m n (x ∷ left) h = All-cons (λ lit. lit.var < m) (literal n) (sum_bits_on (n + 2) left) (omega arith) (sum_bits_within m (n + 2) left (omega arith))
+sum_within m n (x ∷ left) h = All-cons (λ lit. lit.var < m) (literal n) (later_sum_bits (n + 2) left) (omega arith) (sum_bits_within m (n + 2) left (omega arith))
 
-pub length-sum_bits_on : (n : ℕ) (a : List Lit) → length (sum_bits_on n a) ≡ length a + 1
+pub length-sum_bits_on : (n : ℕ) (a : List Lit) → length (later_sum_bits n a) ≡ length a + 1
 length-sum_bits_on n [] = refl
-length-sum_bits_on n (x ∷ left) = let e : length (sum_bits_on (n + 3) left) ≡ length left + 1 = length-sum_bits_on (n + 3) left in omega arith
+length-sum_bits_on n (x ∷ left) = let e : length (later_sum_bits (n + 3) left) ≡ length left + 1 = length-sum_bits_on (n + 3) left in omega arith
 
-pub turned_last : (a b : List Lit) (i : ℕ) (d e : Lit) → length a ≡ length b → i < length a → i ≡ length a - 1 → drop i (turned a b) ≡ (get_or b i e, get_or a i d) ∷ drop (i + 1) (turned a b)
-turned_last a b i d e same within at = rw (add-one i) (turned_at_sign a b i d e same (omega arith))
+pub pairs_last : (a b : List Lit) (i : ℕ) (d e : Lit) → length a ≡ length b → i < length a → i ≡ length a - 1 → drop i (comparison_pairs a b) ≡ (get_or b i e, get_or a i d) ∷ drop (i + 1) (comparison_pairs a b)
+pairs_last a b i d e same within at = rw (add-one i) (pairs_at_sign a b i d e same (omega arith))
 
-pub turned_front : (a b : List Lit) (i : ℕ) (d e : Lit) → length a ≡ length b → i < length a → (i ≡ length a - 1 → ⊥) → drop i (turned a b) ≡ (get_or a i d, get_or b i e) ∷ drop (i + 1) (turned a b)
-turned_front a b i d e same within at = rw (add-one i) (turned_before_sign a b i d e same (omega arith))
+pub pairs_front : (a b : List Lit) (i : ℕ) (d e : Lit) → length a ≡ length b → i < length a → (i ≡ length a - 1 → ⊥) → drop i (comparison_pairs a b) ≡ (get_or a i d, get_or b i e) ∷ drop (i + 1) (comparison_pairs a b)
+pairs_front a b i d e same within at = rw (add-one i) (pairs_before_sign a b i d e same (omega arith))
 
 pub All_later : (n m : ℕ) (row : List Lit) → n ≤ m → All (λ lit. lit.var < n) row → All (λ lit. lit.var < m) row
 All_later n m row le h = All-weaker (λ lit. lit.var < n) (λ lit. lit.var < m) (λ lit below. omega arith) row h
@@ -160,15 +167,15 @@ append_none : {A : Type 0} (xs : List A) → xs ++ [] ≡ xs
 append_none [] = refl
 append_none (x ∷ xs) = ap (λ ys. x ∷ ys) (append_none xs)
 
-pub le_ends : (m place : ℕ) (now total : List (List Lit)) (greater : Lit) (a b : List Lit) → length a ≡ length b → length a ≤ place → now ++ greater_on m greater (drop place (turned a b)) ≡ total → now ≡ total
+pub le_ends : (m place : ℕ) (now total : List (List Lit)) (greater : Lit) (a b : List Lit) → length a ≡ length b → length a ≤ place → now ++ later_greater_clauses m greater (drop place (comparison_pairs a b)) ≡ total → now ≡ total
 le_ends m place now total greater a b same past h =
-    let none : drop place (turned a b) ≡ [] = drop_past place (turned a b) (let e : length (turned a b) ≡ length a = length-turned a b same in omega arith) in
+    let none : drop place (comparison_pairs a b) ≡ [] = drop_past place (comparison_pairs a b) (let e : length (comparison_pairs a b) ≡ length a = length-pairs a b same in omega arith) in
     sym (append_none now) ∙ (rw none at h)
 
 pub positive_at : (w : ℕ) (greater : Lit) → greater ≡ literal greater.var → greater.var ≡ w → greater ≡ literal w
 positive_at w greater is e = is ∙ ap literal e
 
-pub majority_gate_means : (n m : ℕ) (older newer : List (List Lit)) (a b c v : Lit) → a.var < n → b.var < n → c.var < n → m ≡ n + 1 → newer ≡ older ++ majority_clauses n a b c → v ≡ literal n → Means m newer v (λ model. majority (lit_holds model a) (lit_holds model b) (lit_holds model c))
+pub majority_gate_means : (n m : ℕ) (older newer : List (List Lit)) (a b c v : Lit) → a.var < n → b.var < n → c.var < n → m ≡ n + 1 → newer ≡ older ++ majority_clauses n a b c → v ≡ literal n → Represents m newer v (λ model. majority (lit_holds model a) (lit_holds model b) (lit_holds model c))
 majority_gate_means n m older newer a b c v la lb lc em en ev =
     λ model is. ap (lit_holds model) ev ∙ majority_means model n a b c (let w = is.vars in omega arith) (let w = is.vars in omega arith) (let w = is.vars in omega arith) (let w = is.vars in omega arith) (last_hold model older (majority_clauses n a b c) newer en is.holds)
 
@@ -192,26 +199,26 @@ first_of (x ∷ left) d h = refl
 pub place_of : (a : List Lit) (i : ℕ) (d : Lit) → i < length a → drop i a ≡ get_or a i d ∷ drop (i + 1) a
 place_of a i d h = rw (add-one i) (drop-cons a i d h)
 
-pub sum_bits_begin : (n m : ℕ) (bits bits' a left : List Lit) (x s : Lit) → a ≡ x ∷ left → m ≡ n + 2 → s ≡ literal n → bits ≡ [] → bits' ≡ bits ++ s ∷ [] → bits' ++ sum_bits_on m left ≡ sum_bits n a
+pub sum_bits_begin : (n m : ℕ) (bits bits' a left : List Lit) (x s : Lit) → a ≡ x ∷ left → m ≡ n + 2 → s ≡ literal n → bits ≡ [] → bits' ≡ bits ++ s ∷ [] → bits' ++ later_sum_bits m left ≡ sum_bits n a
 sum_bits_begin n m bits bits' a left x s ea em es eb eb' = rw (eb', eb, ea, em, es) refl
 
-pub sum_ends : (m i : ℕ) (now newer total : List (List Lit)) (either carry : Lit) (a b : List Lit) → length a ≤ i → length b ≤ i → newer ≡ now ++ xor_clauses m either carry → now ++ sum_on m either carry (drop i a) (drop i b) ≡ total → newer ≡ total
+pub sum_ends : (m i : ℕ) (now newer total : List (List Lit)) (either carry : Lit) (a b : List Lit) → length a ≤ i → length b ≤ i → newer ≡ now ++ xor_clauses m either carry → now ++ later_sum_clauses m either carry (drop i a) (drop i b) ≡ total → newer ≡ total
 sum_ends m i now newer total either carry a b pa pb en h = en ∙ (rw (drop_past i a pa) at h)
 
-pub sum_bits_end : (m i : ℕ) (bits bits' total a : List Lit) (s : Lit) → length a ≤ i → s ≡ literal m → bits' ≡ bits ++ s ∷ [] → bits ++ sum_bits_on m (drop i a) ≡ total → bits' ≡ total
+pub sum_bits_end : (m i : ℕ) (bits bits' total a : List Lit) (s : Lit) → length a ≤ i → s ≡ literal m → bits' ≡ bits ++ s ∷ [] → bits ++ later_sum_bits m (drop i a) ≡ total → bits' ≡ total
 sum_bits_end m i bits bits' total a s pa es eb h = eb ∙ ap (λ l. bits ++ l ∷ []) es ∙ (rw (drop_past i a pa) at h)
 
-pub sum_means : (n m : ℕ) (older newer : List (List Lit)) (a b sum : List Lit) → length a ≡ length b → 0 < length a → All (λ lit. lit.var < n) a → All (λ lit. lit.var < n) b → m ≡ n + 3 * length a → sum ≡ sum_bits n a → newer ≡ older ++ sum_clauses n a b → (model : List Bool) → IsModel m newer model → signed (values model sum) ≡ signed (values model a) +ℤ signed (values model b)
+pub sum_means : (n m : ℕ) (older newer : List (List Lit)) (a b sum : List Lit) → length a ≡ length b → 0 < length a → All (λ lit. lit.var < n) a → All (λ lit. lit.var < n) b → m ≡ n + 3 * length a → sum ≡ sum_bits n a → newer ≡ older ++ sum_clauses n a b → (model : List Bool) → IsModel m newer model → signed_number (lit_values model sum) ≡ signed_number (lit_values model a) +ℤ signed_number (lit_values model b)
 sum_means n m older newer a b sum same some la lb em es en model is =
     let wide : length model ≡ n + 3 * length a = is.vars ∙ em in
-    ap (λ row. signed (values model row)) es
+    ap (λ row. signed_number (lit_values model row)) es
     ∙ sum_adds model n a b same some (omega arith)
     (All_later n (length model) a (omega arith) la) (All_later n (length model) b (omega arith) lb)
     (last_hold model older (sum_clauses n a b) newer en is.holds)
 
 pub length-sum_bits : (n : ℕ) (a : List Lit) → 0 < length a → length (sum_bits n a) ≡ length a + 1
 length-sum_bits n [] h = absurd (omega arith)
-length-sum_bits n (x ∷ left) h = let e : length (sum_bits_on (n + 2) left) ≡ length left + 1 = length-sum_bits_on (n + 2) left in omega arith
+length-sum_bits n (x ∷ left) h = let e : length (later_sum_bits (n + 2) left) ≡ length left + 1 = length-sum_bits_on (n + 2) left in omega arith
 
 pub known_bits : (n m : ℕ) (a sum : List Lit) → sum ≡ sum_bits n a → m ≡ n + 3 * length a → All (λ lit. lit.var < m) sum
 known_bits n m a sum e h = rw e (sum_within m n a (omega arith))

@@ -5,7 +5,7 @@ use Rattle.std.proofs.lemmas.List.{get_or_append_left, get_or_past, take_all}
 use Rattle.std.proofs.lemmas.List.Folds.{list_all-append}
 use Rattle.std.proofs.Math.Seq.{get_or-append_seam}
 use Rattle.cnf.specs.declared.lit.Lit.{Lit}
-use Rattle.cnf.specs.Clauses.{opposite, lit_holds, clause_holds, clauses_hold, Grows}
+use Rattle.cnf.specs.Clauses.{opposite, lit_holds, clause_holds, clauses_hold, IsConservative}
 use Rattle.cnf.specs.Gates.{literal}
 
 -- the default of a read within the list does not matter
@@ -75,19 +75,19 @@ clauses_hold-take model (suc k) (c ∷ cs) h =
 pub lit_holds-last : (model : List Bool) (value : Bool) (n : ℕ) → length model ≡ n → lit_holds (model ++ value ∷ []) (literal n) ≡ value
 lit_holds-last model value n e = rw (← e) (get_or-append_seam model value [] false)
 
-append_nil : {A : Type 0} (xs : List A) → xs ++ [] ≡ xs
+pub append_nil : {A : Type 0} (xs : List A) → xs ++ [] ≡ xs
 append_nil [] = refl
 append_nil (x ∷ xs) = ap (λ ys. x ∷ ys) (append_nil xs)
 
-pub Grows_refl : (n : ℕ) (clauses : List (List Lit)) → Grows n clauses n clauses
-Grows_refl n clauses = record {
+pub IsConservative_refl : (n : ℕ) (clauses : List (List Lit)) → IsConservative n clauses n clauses
+IsConservative_refl n clauses = record {
   vars = omega arith;
   clauses = ([], sym (append_nil clauses));
   extends = λ model is. ([], record { vars = ap length (append_nil model) ∙ is.vars; holds = clauses_hold-more model [] clauses is.holds });
 }
 
-pub Grows_trans : (n m k : ℕ) (xs ys zs : List (List Lit)) → Grows n xs m ys → Grows m ys k zs → Grows n xs k zs
-Grows_trans n m k xs ys zs g h = record {
+pub IsConservative_trans : (n m k : ℕ) (xs ys zs : List (List Lit)) → IsConservative n xs m ys → IsConservative m ys k zs → IsConservative n xs k zs
+IsConservative_trans n m k xs ys zs g h = record {
   vars = omega arith;
   clauses = (g.clauses.0 ++ h.clauses.0, h.clauses.1 ∙ ap (λ c. c ++ h.clauses.0) g.clauses.1 ∙ append_assoc xs g.clauses.0 h.clauses.0);
   extends = λ model is.
@@ -97,16 +97,16 @@ Grows_trans n m k xs ys zs g h = record {
 }
 
 -- a new variable alone
-pub Grows-var : (n : ℕ) (clauses : List (List Lit)) → Grows n clauses (n + 1) clauses
-Grows-var n clauses = record {
+pub IsConservative-var : (n : ℕ) (clauses : List (List Lit)) → IsConservative n clauses (n + 1) clauses
+IsConservative-var n clauses = record {
   vars = omega arith;
   clauses = ([], sym (append_nil clauses));
   extends = λ model is. (false ∷ [], record { vars = length-append model (false ∷ []) ∙ ap (λ k. k + 1) is.vars; holds = clauses_hold-more model (false ∷ []) clauses is.holds });
 }
 
 -- a new variable with clauses that some value of it meets
-pub Grows-defined : (n : ℕ) (older gate : List (List Lit)) (k : ℕ) → ((model : List Bool) → length model ≡ n → (value : Bool) × (clauses_hold (model ++ value ∷ []) gate ≡ true)) → Grows n older (n + 1) (older ++ take k gate)
-Grows-defined n older gate k fits = record {
+pub IsConservative-defined : (n : ℕ) (older gate : List (List Lit)) (k : ℕ) → ((model : List Bool) → length model ≡ n → (value : Bool) × (clauses_hold (model ++ value ∷ []) gate ≡ true)) → IsConservative n older (n + 1) (older ++ take k gate)
+IsConservative-defined n older gate k fits = record {
   vars = omega arith;
   clauses = (take k gate, refl);
   extends = λ model is.
@@ -122,5 +122,25 @@ Grows-defined n older gate k fits = record {
       );
 }
 
-pub Grows-all : (n : ℕ) (older gate : List (List Lit)) → ((model : List Bool) → length model ≡ n → (value : Bool) × (clauses_hold (model ++ value ∷ []) gate ≡ true)) → Grows n older (n + 1) (older ++ gate)
-Grows-all n older gate fits = rw (← take_all (length gate) gate (omega arith)) (Grows-defined n older gate (length gate) fits)
+pub IsConservative-all : (n : ℕ) (older gate : List (List Lit)) → ((model : List Bool) → length model ≡ n → (value : Bool) × (clauses_hold (model ++ value ∷ []) gate ≡ true)) → IsConservative n older (n + 1) (older ++ gate)
+IsConservative-all n older gate fits = rw (← take_all (length gate) gate (omega arith)) (IsConservative-defined n older gate (length gate) fits)
+
+-- a front of a gate's clauses
+pub IsConservative-front : (n m : ℕ) (older gate now rest added : List (List Lit)) → ((model : List Bool) → length model ≡ n → (value : Bool) × (clauses_hold (model ++ value ∷ []) gate ≡ true))
+    → m ≡ n + 1 → now ≡ older ++ added → now ++ rest ≡ older ++ gate → IsConservative n older m now
+IsConservative-front n m older gate now rest added fits em ea eg = record {
+  vars = omega arith;
+  clauses = (added, ea);
+  extends = λ model is.
+      let fit = fits model is.vars in
+      let whole : clauses_hold (model ++ fit.0 ∷ []) (older ++ gate) ≡ true =
+      clauses_hold-append (model ++ fit.0 ∷ []) older gate
+      ∙ and_from (clauses_hold (model ++ fit.0 ∷ []) older) (clauses_hold (model ++ fit.0 ∷ []) gate) (clauses_hold-more model (fit.0 ∷ []) older is.holds) fit.1 in (
+        fit.0 ∷ [],
+        record {
+          vars = length-append model (fit.0 ∷ []) ∙ ap (λ j. j + 1) is.vars ∙ sym em;
+          holds = (and_parts (clauses_hold (model ++ fit.0 ∷ []) now) (clauses_hold (model ++ fit.0 ∷ []) rest)
+              (sym (clauses_hold-append (model ++ fit.0 ∷ []) now rest) ∙ ap (clauses_hold (model ++ fit.0 ∷ [])) eg ∙ whole)).0;
+        },
+      );
+}

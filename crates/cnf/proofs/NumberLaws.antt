@@ -6,8 +6,9 @@ use Rattle.std.proofs.lemmas.Bool.{and_parts}
 use Rattle.std.proofs.lemmas.List.Elements.{All-head, All-tail}
 use Rattle.std.specs.List.{All}
 use Rattle.cnf.specs.declared.lit.Lit.{Lit}
-use Rattle.cnf.specs.Clauses.{opposite, lit_holds, clauses_hold, values}
-use Rattle.cnf.specs.Gates.{literal, xor, majority, bit, signed, turned, and_clauses, xor_clauses, majority_clauses, greater_on, greater_clauses, sum_on, sum_clauses, sum_bits_on, sum_bits}
+use Rattle.cnf.specs.Clauses.{opposite, lit_holds, clauses_hold, lit_values}
+use Rattle.cnf.specs.Gates.{literal, xor, majority, and_clauses, xor_clauses, majority_clauses}
+use Rattle.cnf.specs.Arithmetic.{bit, signed_number, comparison_pairs, later_greater_clauses, greater_clauses, later_sum_clauses, sum_clauses, later_sum_bits, sum_bits}
 use Rattle.cnf.proofs.ModelLaws.{lit_holds-opposite, clauses_hold-append}
 use Rattle.cnf.proofs.GateLaws.{and_means, xor_means, majority_means}
 
@@ -20,7 +21,7 @@ sign_bit : (b : Bool) → pos 0 -ℤ bit b ≡ bit b +ℤ (pos 2 *ℤ (pos 0 -�
 sign_bit true = refl
 sign_bit false = refl
 
-pub signed-cons : (b : Bool) (bs : List Bool) → signed (b ∷ bs) ≡ bit b +ℤ (pos 2 *ℤ signed_after b bs)
+pub signed-cons : (b : Bool) (bs : List Bool) → signed_number (b ∷ bs) ≡ bit b +ℤ (pos 2 *ℤ signed_after b bs)
 signed-cons b [] = sign_bit b
 signed-cons b (c ∷ cs) = ap (λ z. bit b +ℤ (pos 2 *ℤ z)) (signed-cons c cs)
 
@@ -72,7 +73,7 @@ compare_fft x y = grind (arith, ints)
 compare_fff : (x y : ℤ) → int_lt y (x +ℤ pos 0) ≡ int_lt (pos 0 +ℤ (pos 2 *ℤ y)) ((pos 0 +ℤ (pos 2 *ℤ x)) +ℤ pos 0)
 compare_fff x y = grind (arith, ints)
 
-compare_places : (a b g : Bool) (x y : ℤ) → int_lt y (x +ℤ bit (majority a (not b) g)) ≡ int_lt (bit b +ℤ (pos 2 *ℤ y)) ((bit a +ℤ (pos 2 *ℤ x)) +ℤ bit g)
+pub compare_places : (a b g : Bool) (x y : ℤ) → int_lt y (x +ℤ bit (majority a (not b) g)) ≡ int_lt (bit b +ℤ (pos 2 *ℤ y)) ((bit a +ℤ (pos 2 *ℤ x)) +ℤ bit g)
 compare_places true true true x y = compare_ttt x y
 compare_places true true false x y = compare_ttf x y
 compare_places true false true x y = compare_tft x y
@@ -118,8 +119,8 @@ pub sum_on_adds :
     → All (λ lit. lit.var < length model) right
     → lit_holds model either ≡ xor p q
     → lit_holds model carry ≡ majority p q d
-    → clauses_hold model (sum_on n either carry left right) ≡ true
-    → signed_after s (values model (sum_bits_on n left)) ≡ signed_after p (values model left) +ℤ signed_after q (values model right) +ℤ bit (lit_holds model carry)
+    → clauses_hold model (later_sum_clauses n either carry left right) ≡ true
+    → signed_after s (lit_values model (later_sum_bits n left)) ≡ signed_after p (lit_values model left) +ℤ signed_after q (lit_values model right) +ℤ bit (lit_holds model carry)
 sum_on_adds model n either carry [] [] s p q d same room le lc ll lr ee ec h =
     signs_added (lit_holds model (literal n)) (lit_holds model carry) p q d (lit_holds model either)
     (xor_means model n either carry (omega arith) le lc h) ee ec
@@ -128,7 +129,7 @@ sum_on_adds model n either carry (a ∷ left) [] s p q d same room le lc ll lr e
 sum_on_adds model n either carry (a ∷ left) (b ∷ right) s p q d same room le lc ll lr ee ec h =
     let la : a.var < length model = All-head (λ lit. lit.var < length model) a left ll in
     let lb : b.var < length model = All-head (λ lit. lit.var < length model) b right lr in
-    let rest = split model (xor_clauses n a b ++ xor_clauses (n + 1) (literal n) carry ++ majority_clauses (n + 2) a b carry) (sum_on (n + 3) (literal n) (literal (n + 2)) left right) h in
+    let rest = split model (xor_clauses n a b ++ xor_clauses (n + 1) (literal n) carry ++ majority_clauses (n + 2) a b carry) (later_sum_clauses (n + 3) (literal n) (literal (n + 2)) left right) h in
     let third = split model (xor_clauses n a b ++ xor_clauses (n + 1) (literal n) carry) (majority_clauses (n + 2) a b carry) rest.0 in
     let second = split model (xor_clauses n a b) (xor_clauses (n + 1) (literal n) carry) third.0 in
     let is_either : lit_holds model (literal n) ≡ xor (lit_holds model a) (lit_holds model b) = xor_means model n a b (omega arith) la lb second.0 in
@@ -136,8 +137,8 @@ sum_on_adds model n either carry (a ∷ left) (b ∷ right) s p q d same room le
     let is_carry : lit_holds model (literal (n + 2)) ≡ majority (lit_holds model a) (lit_holds model b) (lit_holds model carry) = majority_means model (n + 2) a b carry (omega arith) la lb lc third.1 in
     add_places (bit (lit_holds model a)) (bit (lit_holds model b)) (bit (lit_holds model carry))
     (bit (lit_holds model (literal (n + 1)))) (bit (lit_holds model (literal (n + 2))))
-    (signed_after (lit_holds model a) (values model left)) (signed_after (lit_holds model b) (values model right))
-    (signed_after (lit_holds model (literal (n + 1))) (values model (sum_bits_on (n + 3) left)))
+    (signed_after (lit_holds model a) (lit_values model left)) (signed_after (lit_holds model b) (lit_values model right))
+    (signed_after (lit_holds model (literal (n + 1))) (lit_values model (later_sum_bits (n + 3) left)))
     (place_added (lit_holds model a) (lit_holds model b) (lit_holds model carry) (lit_holds model (literal n)) (lit_holds model (literal (n + 1))) (lit_holds model (literal (n + 2))) is_either is_sum is_carry)
     (sum_on_adds model (n + 3) (literal n) (literal (n + 2)) left right (lit_holds model (literal (n + 1))) (lit_holds model a) (lit_holds model b) (lit_holds model carry)
     (omega arith) (omega arith) (omega arith) (omega arith)
@@ -165,30 +166,30 @@ pub sum_adds :
     → All (λ lit. lit.var < length model) left
     → All (λ lit. lit.var < length model) right
     → clauses_hold model (sum_clauses n left right) ≡ true
-    → signed (values model (sum_bits n left)) ≡ signed (values model left) +ℤ signed (values model right)
+    → signed_number (lit_values model (sum_bits n left)) ≡ signed_number (lit_values model left) +ℤ signed_number (lit_values model right)
 sum_adds model n [] right same some room ll lr h = absurd (omega arith)
 sum_adds model n (a ∷ left) [] same some room ll lr h = absurd (omega arith)
 sum_adds model n (a ∷ left) (b ∷ right) same some room ll lr h =
     let la : a.var < length model = All-head (λ lit. lit.var < length model) a left ll in
     let lb : b.var < length model = All-head (λ lit. lit.var < length model) b right lr in
-    let rest = split model (xor_clauses n a b ++ and_clauses (n + 1) a b) (sum_on (n + 2) (literal n) (literal (n + 1)) left right) h in
+    let rest = split model (xor_clauses n a b ++ and_clauses (n + 1) a b) (later_sum_clauses (n + 2) (literal n) (literal (n + 1)) left right) h in
     let first = split model (xor_clauses n a b) (and_clauses (n + 1) a b) rest.0 in
     let is_sum : lit_holds model (literal n) ≡ xor (lit_holds model a) (lit_holds model b) = xor_means model n a b (omega arith) la lb first.0 in
     let is_carry : lit_holds model (literal (n + 1)) ≡ (lit_holds model a && lit_holds model b) = and_means model (n + 1) a b (omega arith) la lb first.1 in
     let added =
     add_places (bit (lit_holds model a)) (bit (lit_holds model b)) (pos 0)
     (bit (lit_holds model (literal n))) (bit (lit_holds model (literal (n + 1))))
-    (signed_after (lit_holds model a) (values model left)) (signed_after (lit_holds model b) (values model right))
-    (signed_after (lit_holds model (literal n)) (values model (sum_bits_on (n + 2) left)))
+    (signed_after (lit_holds model a) (lit_values model left)) (signed_after (lit_holds model b) (lit_values model right))
+    (signed_after (lit_holds model (literal n)) (lit_values model (later_sum_bits (n + 2) left)))
     (half_added (lit_holds model a) (lit_holds model b) (lit_holds model (literal n)) (lit_holds model (literal (n + 1))) is_sum is_carry)
     (sum_on_adds model (n + 2) (literal n) (literal (n + 1)) left right (lit_holds model (literal n)) (lit_holds model a) (lit_holds model b) false
     (omega arith) (omega arith) (omega arith) (omega arith)
     (All-tail (λ lit. lit.var < length model) a left ll) (All-tail (λ lit. lit.var < length model) b right lr)
     is_sum (is_carry ∙ and_as_majority (lit_holds model a) (lit_holds model b)) rest.1) in
-    signed-cons (lit_holds model (literal n)) (values model (sum_bits_on (n + 2) left))
+    signed-cons (lit_holds model (literal n)) (lit_values model (later_sum_bits (n + 2) left))
     ∙ added
-    ∙ no_carry (bit (lit_holds model a) +ℤ (pos 2 *ℤ signed_after (lit_holds model a) (values model left))) (bit (lit_holds model b) +ℤ (pos 2 *ℤ signed_after (lit_holds model b) (values model right)))
-    ∙ sym (rw (signed-cons (lit_holds model a) (values model left), signed-cons (lit_holds model b) (values model right)) refl)
+    ∙ no_carry (bit (lit_holds model a) +ℤ (pos 2 *ℤ signed_after (lit_holds model a) (lit_values model left))) (bit (lit_holds model b) +ℤ (pos 2 *ℤ signed_after (lit_holds model b) (lit_values model right)))
+    ∙ sym (rw (signed-cons (lit_holds model a) (lit_values model left), signed-cons (lit_holds model b) (lit_values model right)) refl)
 
 signs_compared : (r a b na g : Bool) → r ≡ majority b na g → na ≡ not a → r ≡ int_lt (pos 0 -ℤ bit b) ((pos 0 -ℤ bit a) +ℤ bit g)
 signs_compared r a b na g er ea = er ∙ rw ea (compare_signs a b g)
@@ -205,8 +206,8 @@ pub greater_on_compares :
     → greater.var < length model
     → All (λ lit. lit.var < length model) (a ∷ left)
     → All (λ lit. lit.var < length model) (b ∷ right)
-    → clauses_hold model (greater_on n greater (turned (a ∷ left) (b ∷ right))) ≡ true
-    → lit_holds model (literal k) ≡ int_lt (signed (values model (b ∷ right))) (signed (values model (a ∷ left)) +ℤ bit (lit_holds model greater))
+    → clauses_hold model (later_greater_clauses n greater (comparison_pairs (a ∷ left) (b ∷ right))) ≡ true
+    → lit_holds model (literal k) ≡ int_lt (signed_number (lit_values model (b ∷ right))) (signed_number (lit_values model (a ∷ left)) +ℤ bit (lit_holds model greater))
 greater_on_compares model n k greater a [] b [] same at room lg ll lr h =
     let la : a.var < length model = All-head (λ lit. lit.var < length model) a [] ll in
     let lb : b.var < length model = All-head (λ lit. lit.var < length model) b [] lr in
@@ -220,9 +221,9 @@ greater_on_compares model n k greater a (a' ∷ left) b [] same at room lg ll lr
 greater_on_compares model n k greater a (a' ∷ left) b (b' ∷ right) same at room lg ll lr h =
     let la : a.var < length model = All-head (λ lit. lit.var < length model) a (a' ∷ left) ll in
     let lb : b.var < length model = All-head (λ lit. lit.var < length model) b (b' ∷ right) lr in
-    let both = split model (majority_clauses n a (opposite b) greater) (greater_on (n + 1) (literal n) (turned (a' ∷ left) (b' ∷ right))) h in
+    let both = split model (majority_clauses n a (opposite b) greater) (later_greater_clauses (n + 1) (literal n) (comparison_pairs (a' ∷ left) (b' ∷ right))) h in
     place_compared (lit_holds model (literal k)) (lit_holds model (literal n)) (lit_holds model a) (lit_holds model b) (lit_holds model (opposite b)) (lit_holds model greater)
-    (signed (values model (a' ∷ left))) (signed (values model (b' ∷ right)))
+    (signed_number (lit_values model (a' ∷ left))) (signed_number (lit_values model (b' ∷ right)))
     (majority_means model n a (opposite b) greater (omega arith) la lb lg both.0)
     (lit_holds-opposite model b lb)
     (greater_on_compares model (n + 1) k (literal n) a' left b' right (omega arith) (omega arith) room (omega arith)
@@ -239,8 +240,8 @@ pub greater_compares :
     → k < length model
     → All (λ lit. lit.var < length model) (a ∷ left)
     → All (λ lit. lit.var < length model) (b ∷ right)
-    → clauses_hold model (greater_clauses n (turned (a ∷ left) (b ∷ right))) ≡ true
-    → lit_holds model (literal k) ≡ int_lt (signed (values model (b ∷ right))) (signed (values model (a ∷ left)) +ℤ pos 0)
+    → clauses_hold model (greater_clauses n (comparison_pairs (a ∷ left) (b ∷ right))) ≡ true
+    → lit_holds model (literal k) ≡ int_lt (signed_number (lit_values model (b ∷ right))) (signed_number (lit_values model (a ∷ left)) +ℤ pos 0)
 greater_compares model n k a [] b [] same at room ll lr h =
     let la : a.var < length model = All-head (λ lit. lit.var < length model) a [] ll in
     let lb : b.var < length model = All-head (λ lit. lit.var < length model) b [] lr in
@@ -254,9 +255,9 @@ greater_compares model n k a (a' ∷ left) b [] same at room ll lr h = absurd (o
 greater_compares model n k a (a' ∷ left) b (b' ∷ right) same at room ll lr h =
     let la : a.var < length model = All-head (λ lit. lit.var < length model) a (a' ∷ left) ll in
     let lb : b.var < length model = All-head (λ lit. lit.var < length model) b (b' ∷ right) lr in
-    let both = split model (and_clauses n a (opposite b)) (greater_on (n + 1) (literal n) (turned (a' ∷ left) (b' ∷ right))) h in
+    let both = split model (and_clauses n a (opposite b)) (later_greater_clauses (n + 1) (literal n) (comparison_pairs (a' ∷ left) (b' ∷ right))) h in
     place_compared (lit_holds model (literal k)) (lit_holds model (literal n)) (lit_holds model a) (lit_holds model b) (lit_holds model (opposite b)) false
-    (signed (values model (a' ∷ left))) (signed (values model (b' ∷ right)))
+    (signed_number (lit_values model (a' ∷ left))) (signed_number (lit_values model (b' ∷ right)))
     (and_means model n a (opposite b) (omega arith) la lb both.0 ∙ and_as_majority (lit_holds model a) (lit_holds model (opposite b)))
     (lit_holds-opposite model b lb)
     (greater_on_compares model (n + 1) k (literal n) a' left b' right (omega arith) (omega arith) room (omega arith)

@@ -32,8 +32,8 @@ pub record IsModel (n : ℕ) (clauses : List (List Lit)) (model : List Bool) : T
   pub holds : clauses_hold model clauses ≡ true
 
 -- each model of the older clauses over n variables is the front of a model of the newer over m
-abbrev pub Extends : ℕ → List (List Lit) → ℕ → List (List Lit) → Type 0
-Extends n older m newer =
+abbrev pub EveryModelExtends : ℕ → List (List Lit) → ℕ → List (List Lit) → Type 0
+EveryModelExtends n older m newer =
     (model : List Bool) → IsModel n older model → (more : List Bool) × IsModel m newer (model ++ more)
 
 -- no list of n truth values is a model
@@ -46,16 +46,16 @@ pub record Problem : Type 0 where
   pub clauses : List (List Lit)
 
 -- the truth values that a model gives to a row of literals
-abbrev pub values : List Bool → List Lit → List Bool
-values model row = map (lit_holds model) row
+abbrev pub lit_values : List Bool → List Lit → List Bool
+lit_values model row = map (lit_holds model) row
 
 -- in every model of the clauses over n variables the literal has the truth value of the function
-abbrev pub Means : ℕ → List (List Lit) → Lit → (List Bool → Bool) → Type 0
-Means n clauses lit function =
+abbrev pub Represents : ℕ → List (List Lit) → Lit → (List Bool → Bool) → Type 0
+Represents n clauses lit function =
     (model : List Bool) → IsModel n clauses model → lit_holds model lit ≡ function model
 
 -- the newer clauses are the older ones and more, over at least as many variables, and lose no model
-pub record Grows (n : ℕ) (older : List (List Lit)) (m : ℕ) (newer : List (List Lit)) : Type 0 where
+pub record IsConservative (n : ℕ) (older : List (List Lit)) (m : ℕ) (newer : List (List Lit)) : Type 0 where
   pub vars : n ≤ m
   pub clauses : (added : List (List Lit)) × (newer ≡ older ++ added)
-  pub extends : Extends n older m newer
+  pub extends : EveryModelExtends n older m newer

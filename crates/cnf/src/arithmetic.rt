@@ -1,6 +1,10 @@
+//! Gates over rows of bits in two's complement: the comparison of two rows and their exact sum. They add variables and clauses
+//! to a base.
+
 ghost use Rattle.std.specs.Prelude.{◌≡◌, ◌+◌, ◌*◌, ◌<◌, ◌+ℤ◌, ◌∷◌, ◌++◌, ℕ, List, Bool, IfOk, OnOk, All, drop, length, int_le};
-ghost use Rattle.cnf.specs.Clauses.{values, IsModel, Means, Grows};
-ghost use Rattle.cnf.specs.Gates.{literal, signed, turned, le_clauses, le_literal, xor_clauses, majority_clauses, sum_clauses, sum_bits};
+ghost use Rattle.cnf.specs.Clauses.{lit_values, IsModel, Represents, IsConservative};
+ghost use Rattle.cnf.specs.Gates.{literal, xor_clauses, majority_clauses};
+ghost use Rattle.cnf.specs.Arithmetic.{signed_number, comparison_pairs, le_clauses, le_literal, sum_clauses, sum_bits};
 
 use crate::base::ClauseBase;
 use crate::bits::Bits;
@@ -10,10 +14,10 @@ use port_types::NoMemory;
 use std::alloc::Global;
 
 /// The bits of two rows at one place, which change sides at the last.
-fn turned_bits(a: &[Lit], b: &[Lit], place: usize) -> (Lit, Lit)
+fn comparison_pair(a: &[Lit], b: &[Lit], place: usize) -> (Lit, Lit)
     requires within { place < length a.now }
     requires same { length a.now ≡ length b.now }
-    ensures bits { drop place (turned a.now b.now) ≡ result ∷ drop (place + 1) (turned a.now b.now) }
+    ensures bits { drop place (comparison_pairs a.now b.now) ≡ result ∷ drop (place + 1) (comparison_pairs a.now b.now) }
     ensures known { (n : ℕ) → All (λ lit. lit.var < n) a.now → All (λ lit. lit.var < n) b.now
         → (result.0.var < n) × (result.1.var < n) }
 {
@@ -33,18 +37,18 @@ pub fn gate_le<B: ClauseBase>(base: &mut B, a: &[Lit], b: &[Lit]) -> Result<Lit,
     requires same { length a.now ≡ length b.now }
     requires left { All (λ lit. lit.var < B.vars base.old) a.now }
     requires right { All (λ lit. lit.var < B.vars base.old) b.now }
-    ensures value { IfOk result (λ c. Means (B.vars base.new) (B.clauses base.new) c
-        (λ model. int_le (signed (values model a.now)) (signed (values model b.now)))) }
-    ensures grows { Grows (B.vars base.old) (B.clauses base.old) (B.vars base.new) (B.clauses base.new) }
+    ensures value { IfOk result (λ c. Represents (B.vars base.new) (B.clauses base.new) c
+        (λ model. int_le (signed_number (lit_values model a.now)) (signed_number (lit_values model b.now)))) }
+    ensures grows { IsConservative (B.vars base.old) (B.clauses base.old) (B.vars base.new) (B.clauses base.new) }
     ensures answer { IfOk result (λ c. c ≡ le_literal (B.vars base.old) a.now) }
     ensures vars { OnOk result (B.vars base.new ≡ B.vars base.old + length a.now) }
     ensures clauses { OnOk result (B.clauses base.new ≡ B.clauses base.old ++ le_clauses (B.vars base.old) a.now b.now) }
 {
-    let (x, y) = turned_bits(a, b, 0);
+    let (x, y) = comparison_pair(a, b, 0);
     let not_y = y.negated();
     let mut greater = gate_and(base, x, not_y)?;
     for place in 1..a.len() {
-        let (x, y) = turned_bits(a, b, place);
+        let (x, y) = comparison_pair(a, b, place);
         let not_y = y.negated();
         greater = gate_majority(base, x, not_y, greater)?;
     }
@@ -64,7 +68,7 @@ fn full_adder<B: ClauseBase>(base: &mut B, a: Lit, b: Lit, carry: Lit) -> Result
     requires first { a.var < B.vars base.old }
     requires second { b.var < B.vars base.old }
     requires third { carry.var < B.vars base.old }
-    ensures grows { Grows (B.vars base.old) (B.clauses base.old) (B.vars base.new) (B.clauses base.new) }
+    ensures grows { IsConservative (B.vars base.old) (B.clauses base.old) (B.vars base.new) (B.clauses base.new) }
     ensures either { IfOk result (λ place. place.either ≡ literal (B.vars base.old)) }
     ensures sum { IfOk result (λ place. place.sum ≡ literal (B.vars base.old + 1)) }
     ensures carry { IfOk result (λ place. place.carry ≡ literal (B.vars base.old + 2)) }
@@ -94,8 +98,8 @@ pub fn adder<B: ClauseBase>(
     requires left { All (λ lit. lit.var < B.vars base.old) a.now }
     requires right { All (λ lit. lit.var < B.vars base.old) b.now }
     ensures value { IfOk result (λ sum. (model : List Bool) → IsModel (B.vars base.new) (B.clauses base.new) model
-        → signed (values model sum) ≡ signed (values model a.now) +ℤ signed (values model b.now)) }
-    ensures grows { Grows (B.vars base.old) (B.clauses base.old) (B.vars base.new) (B.clauses base.new) }
+        → signed_number (lit_values model sum) ≡ signed_number (lit_values model a.now) +ℤ signed_number (lit_values model b.now)) }
+    ensures grows { IsConservative (B.vars base.old) (B.clauses base.old) (B.vars base.new) (B.clauses base.new) }
     ensures known { IfOk result (λ sum. All (λ lit. lit.var < B.vars base.new) sum) }
     ensures len { IfOk result (λ sum. length sum ≡ length a.now + 1) }
     ensures answer { IfOk result (λ sum. sum ≡ sum_bits (B.vars base.old) a.now) }

@@ -1,3 +1,5 @@
+//! A base of clauses, as a trait: what gates need of whoever keeps the clauses.
+
 ghost use Rattle.std.specs.Prelude.{◌≡◌, ◌+◌, ◌<◌, ℕ, List, [], ◌∷◌, ◌++◌, IfOk, OnOk, OnErr, All};
 ghost use Rattle.cnf.specs.declared.lit.Lit.{Lit};
 

@@ -1,3 +1,5 @@
+//! Rows of literals. Contracts see the list of them.
+
 ghost use Rattle.std.specs.Prelude.{◌≡◌, ◌∷◌, ◌++◌, [], OnOk, OnErr, length};
 
 use crate::lit::Lit;

@@ -1,3 +1,5 @@
+//! Clauses. Contracts see the list of their literals.
+
 ghost use Rattle.std.specs.Prelude.{◌≡◌, ◌∷◌, ◌++◌, [], ◌↔◌, IsTrue, IfOk, OnOk, OnErr, length, Contains};
 
 use crate::lit::Lit;

@@ -1,3 +1,5 @@
+//! A list of clauses over a number of variables, the plainest base of clauses.
+
 ghost use Rattle.std.specs.Prelude.{◌≡◌, ◌<◌, [], All};
 
 use crate::base::ClauseBase;

@@ -1,5 +1,7 @@
+//! Gates over single literals: and, exclusive or, majority. Each adds one variable and its clauses to a base.
+
 ghost use Rattle.std.specs.Prelude.{◌≡◌, ◌+◌, ◌<◌, ◌&&◌, ◌++◌, ℕ, List, IfOk, OnOk, OnErr, All, take};
-ghost use Rattle.cnf.specs.Clauses.{lit_holds, Means, Grows};
+ghost use Rattle.cnf.specs.Clauses.{lit_holds, Represents, IsConservative};
 ghost use Rattle.cnf.specs.Gates.{literal, xor, majority, and_clauses, xor_clauses, majority_clauses};
 
 use crate::base::ClauseBase;
@@ -26,8 +28,8 @@ fn add_all<B: ClauseBase, const N: usize>(
 pub fn gate_and<B: ClauseBase>(base: &mut B, a: Lit, b: Lit) -> Result<Lit, NoMemory>
     requires left { a.var < B.vars base.old }
     requires right { b.var < B.vars base.old }
-    ensures value { IfOk result (λ c. Means (B.vars base.new) (B.clauses base.new) c (λ model. lit_holds model a && lit_holds model b)) }
-    ensures grows { Grows (B.vars base.old) (B.clauses base.old) (B.vars base.new) (B.clauses base.new) }
+    ensures value { IfOk result (λ c. Represents (B.vars base.new) (B.clauses base.new) c (λ model. lit_holds model a && lit_holds model b)) }
+    ensures grows { IsConservative (B.vars base.old) (B.clauses base.old) (B.vars base.new) (B.clauses base.new) }
     ensures answer { IfOk result (λ c. c ≡ literal (B.vars base.old)) }
     ensures vars { OnOk result (B.vars base.new ≡ B.vars base.old + 1) }
     ensures clauses { OnOk result (B.clauses base.new ≡ B.clauses base.old ++ and_clauses (B.vars base.old) a b) }
@@ -46,8 +48,8 @@ pub fn gate_and<B: ClauseBase>(base: &mut B, a: Lit, b: Lit) -> Result<Lit, NoMe
 pub fn gate_xor<B: ClauseBase>(base: &mut B, a: Lit, b: Lit) -> Result<Lit, NoMemory>
     requires left { a.var < B.vars base.old }
     requires right { b.var < B.vars base.old }
-    ensures value { IfOk result (λ c. Means (B.vars base.new) (B.clauses base.new) c (λ model. xor (lit_holds model a) (lit_holds model b))) }
-    ensures grows { Grows (B.vars base.old) (B.clauses base.old) (B.vars base.new) (B.clauses base.new) }
+    ensures value { IfOk result (λ c. Represents (B.vars base.new) (B.clauses base.new) c (λ model. xor (lit_holds model a) (lit_holds model b))) }
+    ensures grows { IsConservative (B.vars base.old) (B.clauses base.old) (B.vars base.new) (B.clauses base.new) }
     ensures answer { IfOk result (λ c. c ≡ literal (B.vars base.old)) }
     ensures vars { OnOk result (B.vars base.new ≡ B.vars base.old + 1) }
     ensures clauses { OnOk result (B.clauses base.new ≡ B.clauses base.old ++ xor_clauses (B.vars base.old) a b) }
@@ -74,9 +76,9 @@ pub fn gate_majority<B: ClauseBase>(base: &mut B, a: Lit, b: Lit, c: Lit) -> Res
     requires first { a.var < B.vars base.old }
     requires second { b.var < B.vars base.old }
     requires third { c.var < B.vars base.old }
-    ensures value { IfOk result (λ v. Means (B.vars base.new) (B.clauses base.new) v
+    ensures value { IfOk result (λ v. Represents (B.vars base.new) (B.clauses base.new) v
         (λ model. majority (lit_holds model a) (lit_holds model b) (lit_holds model c))) }
-    ensures grows { Grows (B.vars base.old) (B.clauses base.old) (B.vars base.new) (B.clauses base.new) }
+    ensures grows { IsConservative (B.vars base.old) (B.clauses base.old) (B.vars base.new) (B.clauses base.new) }
     ensures answer { IfOk result (λ v. v ≡ literal (B.vars base.old)) }
     ensures vars { OnOk result (B.vars base.new ≡ B.vars base.old + 1) }
     ensures clauses { OnOk result (B.clauses base.new ≡ B.clauses base.old ++ majority_clauses (B.vars base.old) a b c) }

@@ -7,18 +7,24 @@
 mod arithmetic;
 mod base;
 mod bits;
+mod bounds;
 mod clause;
 mod formula;
 mod gates;
+mod laws;
+mod lists;
 mod lit;
 mod valuation;
 
 pub use arithmetic::{adder, gate_le};
 pub use base::ClauseBase;
 pub use bits::Bits;
+pub use bounds::{add_limit, constant_bits, gate_at_most_const, has_places};
 pub use clause::Clause;
 pub use formula::Cnf;
 pub use gates::{gate_and, gate_majority, gate_xor};
+pub use laws::{extensions_compose, gates_are_right};
+pub use lists::{gate_all, gate_any};
 pub use lit::Lit;
 pub use valuation::Model01;
 

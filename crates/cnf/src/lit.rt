@@ -1,3 +1,5 @@
+//! Literals: a variable with a sign.
+
 ghost use Rattle.std.specs.Prelude.{◌≡◌, ◌↔◌, IsTrue};
 ghost use Rattle.cnf.specs.Clauses.{opposite};
 

@@ -1,3 +1,5 @@
+//! Models: a truth value for each variable.
+
 ghost use Rattle.std.specs.Prelude.{◌≡◌, ◌<◌, false, length, slice_index_or};
 
 use std::marker::Model;

@@ -1,13 +1,13 @@
 use Rattle.std.proofs.Common.{◌≡◌, ◌+◌, ◌*◌, ◌<◌, ◌≤◌, ◌∙◌, ap, arith, length}
-use Rattle.cnf.proofs.ModelLaws.{Grows_trans}
+use Rattle.cnf.proofs.ModelLaws.{IsConservative_trans}
 use Rattle.cnf.proofs.GateSteps.{All_later, no_lit, lit_below, known_bits, first_of, place_of, sum_begins, sum_goes_on, sum_bits_begin, sum_bits_go_on, sum_ends, sum_bits_end, sum_means, length-sum_bits}
 use Rattle.cnf.proofs.arithmetic.adder.Goals as goal
 
 pub returns-in_err-carry-clause-grows : goal.returns-in_err-carry-clause-grows
-returns-in_err-carry-clause-grows g c = Grows_trans _ _ _ _ _ _ c.gate_xor.ensures.grows c.gate_and.ensures.grows
+returns-in_err-carry-clause-grows g c = IsConservative_trans _ _ _ _ _ _ c.gate_xor.ensures.grows c.gate_and.ensures.grows
 
 pub returns-in_err-push-clause-grows : goal.returns-in_err-push-clause-grows
-returns-in_err-push-clause-grows g c = Grows_trans _ _ _ _ _ _ c.gate_xor.ensures.grows c.gate_and.ensures.grows
+returns-in_err-push-clause-grows g c = IsConservative_trans _ _ _ _ _ _ c.gate_xor.ensures.grows c.gate_and.ensures.grows
 
 pub loop-i-init : goal.loop-i-init
 loop-i-init g c =
@@ -21,7 +21,7 @@ loop-i-init g c =
           c.in_ok-differ.ensures.answer c.in_ok-carry.ensures.answer c.in_ok-differ.ensures.clauses c.in_ok-carry.ensures.clauses;
       bits = sum_bits_begin _ _ c.new-sum.result _ c.args.a.now _ _ c.in_ok-differ.differ (first_of c.args.a.now no_lit c.requires.some)
           (omega (arith, c.in_ok-differ.ensures.vars, c.in_ok-carry.ensures.vars)) c.in_ok-differ.ensures.answer c.new-sum.ensures c.in_ok-push.ensures.ok;
-      grows = Grows_trans _ _ _ _ _ _ c.gate_xor.ensures.grows c.gate_and.ensures.grows;
+      grows = IsConservative_trans _ _ _ _ _ _ c.gate_xor.ensures.grows c.gate_and.ensures.grows;
     }
 
 pub full_adder-requires-clause-first : goal.full_adder-requires-clause-first
@@ -35,10 +35,10 @@ pub full_adder-requires-clause-third : goal.full_adder-requires-clause-third
 full_adder-requires-clause-third g c = c.loop-i.invariant.carry
 
 pub returns-in_err-place-clause-grows : goal.returns-in_err-place-clause-grows
-returns-in_err-place-clause-grows g c = Grows_trans _ _ _ _ _ _ c.loop-i.invariant.grows c.full_adder.ensures.grows
+returns-in_err-place-clause-grows g c = IsConservative_trans _ _ _ _ _ _ c.loop-i.invariant.grows c.full_adder.ensures.grows
 
 pub returns-in_err-push-2-clause-grows : goal.returns-in_err-push-2-clause-grows
-returns-in_err-push-2-clause-grows g c = Grows_trans _ _ _ _ _ _ c.loop-i.invariant.grows c.full_adder.ensures.grows
+returns-in_err-push-2-clause-grows g c = IsConservative_trans _ _ _ _ _ _ c.loop-i.invariant.grows c.full_adder.ensures.grows
 
 pub loop-i-preserved : goal.loop-i-preserved
 loop-i-preserved g c =
@@ -52,7 +52,7 @@ loop-i-preserved g c =
           c.in_ok-place.ensures.vars c.in_ok-place.ensures.either c.in_ok-place.ensures.carry c.in_ok-place.ensures.clauses c.loop-i.invariant.clauses;
       bits = sum_bits_go_on _ _ c.loop-i.sum _ _ _ _ _ c.in_ok-place.place.sum (place_of c.args.a.now c.loop-i.i no_lit c.loop-i-test.true)
           c.in_ok-place.ensures.vars c.in_ok-place.ensures.sum c.in_ok-push-2.ensures.ok c.loop-i.invariant.bits;
-      grows = Grows_trans _ _ _ _ _ _ c.loop-i.invariant.grows c.full_adder.ensures.grows;
+      grows = IsConservative_trans _ _ _ _ _ _ c.loop-i.invariant.grows c.full_adder.ensures.grows;
     }
 
 pub gate_xor-requires-2-clause-left : goal.gate_xor-requires-2-clause-left
@@ -62,13 +62,13 @@ pub gate_xor-requires-2-clause-right : goal.gate_xor-requires-2-clause-right
 gate_xor-requires-2-clause-right g c = c.loop-i.invariant.carry
 
 pub returns-in_err-sign-clause-grows : goal.returns-in_err-sign-clause-grows
-returns-in_err-sign-clause-grows g c = Grows_trans _ _ _ _ _ _ c.loop-i.invariant.grows c.gate_xor-2.ensures.grows
+returns-in_err-sign-clause-grows g c = IsConservative_trans _ _ _ _ _ _ c.loop-i.invariant.grows c.gate_xor-2.ensures.grows
 
 pub returns-in_err-push-3-clause-grows : goal.returns-in_err-push-3-clause-grows
-returns-in_err-push-3-clause-grows g c = Grows_trans _ _ _ _ _ _ c.loop-i.invariant.grows c.gate_xor-2.ensures.grows
+returns-in_err-push-3-clause-grows g c = IsConservative_trans _ _ _ _ _ _ c.loop-i.invariant.grows c.gate_xor-2.ensures.grows
 
 pub returns-clause-grows : goal.returns-clause-grows
-returns-clause-grows g c = Grows_trans _ _ _ _ _ _ c.loop-i.invariant.grows c.gate_xor-2.ensures.grows
+returns-clause-grows g c = IsConservative_trans _ _ _ _ _ _ c.loop-i.invariant.grows c.gate_xor-2.ensures.grows
 
 pub returns-clause-clauses : goal.returns-clause-clauses
 returns-clause-clauses g c =

@@ -1,15 +1,15 @@
-use Rattle.cnf.proofs.ModelLaws.{Grows_trans}
+use Rattle.cnf.proofs.ModelLaws.{IsConservative_trans}
 use Rattle.cnf.proofs.GateSteps.{place_clauses}
 use Rattle.cnf.proofs.arithmetic.full_adder.Goals as goal
 
 pub returns-in_err-sum-clause-grows : goal.returns-in_err-sum-clause-grows
-returns-in_err-sum-clause-grows g c = Grows_trans _ _ _ _ _ _ c.gate_xor.ensures.grows c.gate_xor-2.ensures.grows
+returns-in_err-sum-clause-grows g c = IsConservative_trans _ _ _ _ _ _ c.gate_xor.ensures.grows c.gate_xor-2.ensures.grows
 
 pub returns-in_err-carry-clause-grows : goal.returns-in_err-carry-clause-grows
-returns-in_err-carry-clause-grows g c = Grows_trans _ _ _ _ _ _ (Grows_trans _ _ _ _ _ _ c.gate_xor.ensures.grows c.gate_xor-2.ensures.grows) c.gate_majority.ensures.grows
+returns-in_err-carry-clause-grows g c = IsConservative_trans _ _ _ _ _ _ (IsConservative_trans _ _ _ _ _ _ c.gate_xor.ensures.grows c.gate_xor-2.ensures.grows) c.gate_majority.ensures.grows
 
 pub returns-clause-grows : goal.returns-clause-grows
-returns-clause-grows g c = Grows_trans _ _ _ _ _ _ (Grows_trans _ _ _ _ _ _ c.gate_xor.ensures.grows c.gate_xor-2.ensures.grows) c.gate_majority.ensures.grows
+returns-clause-grows g c = IsConservative_trans _ _ _ _ _ _ (IsConservative_trans _ _ _ _ _ _ c.gate_xor.ensures.grows c.gate_xor-2.ensures.grows) c.gate_majority.ensures.grows
 
 pub returns-clause-clauses : goal.returns-clause-clauses
 returns-clause-clauses g c =

@@ -1,8 +1,0 @@
-use Rattle.cnf.proofs.GateSteps.{turned_last, turned_front}
-use Rattle.cnf.proofs.arithmetic.turned_bits.Goals as goal
-
-pub returns-then-place-a-clause-bits : goal.returns-then-place-a-clause-bits
-returns-then-place-a-clause-bits c = turned_last c.args.a.now c.args.b.now c.args.place _ _ c.requires.same c.requires.within c.if-place-a.true
-
-pub returns-else-place-a-clause-bits : goal.returns-else-place-a-clause-bits
-returns-else-place-a-clause-bits c = turned_front c.args.a.now c.args.b.now c.args.place _ _ c.requires.same c.requires.within c.if-place-a.false
