@@ -1,0 +1,9 @@
+pub mod Members
+pub mod Walks
+pub mod Watches
+pub mod HeadLaws
+pub mod Listing
+pub mod Unlinking
+pub mod Moves
+pub mod Additions
+pub mod Calls
