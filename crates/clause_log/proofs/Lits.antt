@@ -1,5 +1,6 @@
 -- literals: when two are the same, and which a list has
-use Rattle.std.proofs.Common.{◌≡◌, ◌<◌, ◌+◌, ◌⊎◌, ℕ, Bool, true, false, not, List, [], ◌∷◌, ◌++◌, length, take, get_or, refl, sym, ◌∙◌, ap, subst, inl, inr, arith}
+use Rattle.std.proofs.Common.{◌≡◌, ◌<◌, ◌+◌, ◌⊎◌, ℕ, Bool, true, false, not, List, [], ◌∷◌, ◌++◌, length, take, get_or, refl, sym, ◌∙◌, ap}
+use Rattle.std.proofs.Common.{subst, inl, inr, arith}
 use Rattle.std.specs.List.{Contains}
 use Rattle.std.proofs.lemmas.Bool.{false≢true, true≢false, cases_eq}
 use Rattle.std.proofs.lemmas.List.{take_more}
@@ -87,10 +88,12 @@ has_or_not (x ∷ xs) lit =
 taken : (xs : List Lit) (i : ℕ) (d : Lit) → i < length xs → take (i + 1) xs ≡ take i xs ++ get_or xs i d ∷ []
 taken xs i d h = take_more xs i d h
 
-pub taken_cases : (xs : List Lit) (i : ℕ) (d lit : Lit) → i < length xs → Contains (take (i + 1) xs) lit → Contains (take i xs) lit ⊎ (get_or xs i d ≡ lit)
+pub taken_cases : (xs : List Lit) (i : ℕ) (d lit : Lit) → i < length xs → Contains (take (i + 1) xs) lit
+    → Contains (take i xs) lit ⊎ (get_or xs i d ≡ lit)
 taken_cases xs i d lit h c = Contains-push_cases (take i xs) (get_or xs i d) lit (subst (λ (l : List Lit). Contains l lit) (taken xs i d h) c)
 
-pub taken_old : (xs : List Lit) (i : ℕ) (d lit : Lit) → i < length xs → Contains (take i xs) lit → Contains (take (i + 1) xs) lit
+pub taken_old : (xs : List Lit) (i : ℕ) (d lit : Lit) → i < length xs → Contains (take i xs) lit
+    → Contains (take (i + 1) xs) lit
 taken_old xs i d lit h c = subst (λ (l : List Lit). Contains l lit) (sym (taken xs i d h)) (Contains-append_left (take i xs) (get_or xs i d ∷ []) lit c)
 
 pub taken_new : (xs : List Lit) (i : ℕ) (d : Lit) → i < length xs → Contains (take (i + 1) xs) (get_or xs i d)

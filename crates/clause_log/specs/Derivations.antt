@@ -5,7 +5,7 @@
 -- steps, as in the resolution proofs of L. Zhang and S. Malik, Validating SAT solvers using an
 -- independent resolution-based checker, DATE 2003.
 
-use Rattle.std.specs.Prelude.{◌≡◌, ◌≢◌, ◌<◌, ◌↔◌, ◌⊎◌, ℕ, List, [], ◌∷◌, ◌++◌, length, map, take, Contains, slice_index_or}
+use Rattle.std.specs.Prelude.{◌≡◌, ◌≢◌, ◌<◌, ◌↔◌, ◌⊎◌, ℕ, List, [], ◌∷◌, ◌++◌, length, map, take, Contains, slice_get, slice_index_or, Some}
 use Rattle.cnf.specs.declared.lit.Lit.{Lit}
 use Rattle.cnf.specs.Clauses.{opposite, HasNoModel}
 use Rattle.clause_log.specs.declared.chain.Pivot.{Pivot}
@@ -16,11 +16,11 @@ abbrev pub SameLits : List Lit → List Lit → Type 0
 SameLits xs ys = (lit : Lit) → Contains xs lit ↔ Contains ys lit
 
 -- one resolution: `pivot` is taken from the left, its opposite from the right, and the other literals
--- of both sides are joined
+-- of both sides make the resolvent
 pub record Resolves (left right : List Lit) (pivot : Lit) (after : List Lit) : Type 0 where
   pub on_left : Contains left pivot
   pub on_right : Contains right (opposite pivot)
-  pub joined :
+  pub resolvent :
       (lit : Lit)
       → Contains after lit
       ↔ ((Contains left lit × (lit ≢ pivot)) ⊎ (Contains right lit × (lit ≢ opposite pivot)))
@@ -42,15 +42,26 @@ Follows before chain =
     (chain.first < length before)
     × Leads before (slice_index_or before chain.first []) chain.rest chain.clause
 
--- the clauses before the chain at k: those of the cnf, and then those of the chains before it
-abbrev pub clauses_before : List (List Lit) → List Chain → ℕ → List (List Lit)
-clauses_before cnf log k = cnf ++ map (λ chain. chain.clause) (take k log)
+-- the clauses by their numbers: those of the cnf, and then those of the chains
+abbrev pub clauses_by_number : List (List Lit) → List Chain → List (List Lit)
+clauses_by_number cnf log = cnf ++ map (λ chain. chain.clause) log
 
--- the log derives the empty clause: each chain follows from the clauses before it, there is a last
--- chain, and its clause is empty
+-- the clauses before the chain at k
+abbrev pub clauses_before : List (List Lit) → List Chain → ℕ → List (List Lit)
+clauses_before cnf log k = clauses_by_number cnf (take k log)
+
+-- each chain follows from the clauses before it
+abbrev pub EachFollows : List (List Lit) → List Chain → Type 0
+EachFollows cnf log = (k : ℕ) (chain : Chain) → slice_get log k ≡ Some chain → Follows (clauses_before cnf log k) chain
+
+-- there is a last chain, and its clause is empty
+abbrev pub EndsEmpty : List Chain → Type 0
+EndsEmpty log = (front : List Chain) × (last : Chain) × (log ≡ front ++ last ∷ []) × (last.clause ≡ [])
+
+-- the log derives the empty clause
 pub record Derives (cnf : List (List Lit)) (log : List Chain) : Type 0 where
-  pub each : (k : ℕ) (none : Chain) → k < length log → Follows (clauses_before cnf log k) (slice_index_or log k none)
-  pub ends : (front : List Chain) × (last : Chain) × (log ≡ front ++ last ∷ []) × (last.clause ≡ [])
+  pub each : EachFollows cnf log
+  pub ends : EndsEmpty log
 
 -- a log that derives the empty clause shows that no assignment to any number of variables is a model
 abbrev pub DerivationsRefute : Type 0

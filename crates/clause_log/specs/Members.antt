@@ -1,12 +1,12 @@
--- The members of a set of literals that marks tell, as a list.
+-- The members of a set of literals that marks tell, as a list. This file serves proofs only.
 
 use Rattle.std.specs.Prelude.{ℕ, zero, suc, true, false, List, [], ◌∷◌, ◌++◌, length, if◌then◌else◌}
 use Rattle.cnf.specs.declared.lit.Lit.{Lit}
 use Rattle.clause_log.specs.declared.lit_set.Signs.{Signs}
-use Rattle.clause_log.specs.Marks.{marked}
+use Rattle.clause_log.specs.Marks.{mark_of}
 
 abbrev pub if_marked : List Signs → Lit → List Lit
-if_marked marks lit = if marked marks lit then lit ∷ [] else []
+if_marked marks lit = if mark_of marks lit then lit ∷ [] else []
 
 -- the literals in the set of the variables below a number
 abbrev pub members_below : List Signs → ℕ → List Lit

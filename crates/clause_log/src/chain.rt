@@ -1,3 +1,5 @@
+//! Chains and logs of them: the types that `check` reads. Nothing here is checked.
+
 ghost use Rattle.std.specs.Prelude.{◌≡◌, ◌∷◌, ◌++◌, [], OnOk, OnErr, length};
 
 use cnf::Clause;

@@ -1,10 +1,16 @@
-ghost use Rattle.std.specs.Prelude.{◌≡◌, ◌<◌, ◌≤◌, ◌↔◌, ◌∷◌, ◌++◌, ℕ, List, [], true, false, IsTrue, IfOk, MatchOption, All, Contains, length, slice_index_or};
+//! The check of a log: `check` resolves each chain step by step in a set of literals, and compares the set
+//! with the chain's clause.
+//!
+//! It may touch the bench that it is lent, which it leaves empty.
+
+ghost use Rattle.std.specs.Prelude.{◌≡◌, ◌<◌, ◌≤◌, ◌↔◌, [], true, false, ℕ, List};
+ghost use Rattle.std.specs.Prelude.{IsTrue, IfOk, MatchOption, All, Contains, length, slice_index_or};
 ghost use Rattle.cnf.specs.declared.lit.Lit.{Lit};
 ghost use Rattle.cnf.specs.Clauses.{opposite, HasNoModel};
-ghost use Rattle.clause_log.specs.declared.chain.Chain.{Chain};
-ghost use Rattle.clause_log.specs.Marks.{marked, numbered, Puts};
+ghost use Rattle.clause_log.specs.Marks.{mark_of, SetsMarks};
 ghost use Rattle.clause_log.specs.Members.{members};
-ghost use Rattle.clause_log.specs.Derivations.{SameLits, Resolves, Leads, Follows, clauses_before, Derives, DerivationsRefute};
+ghost use Rattle.clause_log.specs.Derivations.{SameLits, Resolves, Leads, Follows, Derives, DerivationsRefute};
+ghost use Rattle.clause_log.specs.Derivations.{clauses_by_number, EachFollows, EndsEmpty};
 
 use crate::chain::{Chain, ChainLog, Pivot};
 use crate::lit_set::LitSet;
@@ -23,13 +29,13 @@ pub struct Marks {
 impl Model for Marks {
     ghost use Rattle.std.specs.Prelude.{ℕ, ◌≡◌, false, length};
     ghost use Rattle.cnf.specs.declared.lit.Lit.{Lit};
-    ghost use Rattle.clause_log.specs.Marks.{marked};
+    ghost use Rattle.clause_log.specs.Marks.{mark_of};
 
     ghost Value = { ℕ };
 
     ghost view = { λ m. m.vars };
 
-    ghost invariant = { λ m. (length m.set ≡ m.vars) × ((lit : Lit) → marked m.set lit ≡ false) };
+    ghost invariant = { λ m. (length m.set ≡ m.vars) × ((lit : Lit) → mark_of m.set lit ≡ false) };
 }
 
 impl Marks {
@@ -46,8 +52,9 @@ impl Marks {
 // The clause of a number, the chains' clauses after those of the cnf.
 fn clause_at<'a>(cnf: &'a [Clause], log: &'a [Chain], number: usize) -> Option<&'a [Lit]>
     ensures { MatchOption result
-        (length (numbered cnf.now log.now) ≤ number)
-        (λ clause. (number < length (numbered cnf.now log.now)) × (clause.now ≡ slice_index_or (numbered cnf.now log.now) number [])) }
+        (length (clauses_by_number cnf.now log.now) ≤ number)
+        (λ clause. (number < length (clauses_by_number cnf.now log.now))
+        × (clause.now ≡ slice_index_or (clauses_by_number cnf.now log.now) number [])) }
 {
     if number < cnf.len() {
         return Some(cnf[number].as_slice());
@@ -63,7 +70,7 @@ fn clause_at<'a>(cnf: &'a [Clause], log: &'a [Chain], number: usize) -> Option<&
 fn put_all(set: &mut LitSet, lits: &[Lit], mark: bool)
     requires { All (λ lit. lit.var < length set.old) lits.now }
     ensures vars { length set.new ≡ length set.old }
-    ensures puts { Puts set.old lits.now mark set.new }
+    ensures puts { SetsMarks set.old lits.now mark set.new }
 {
     for lit in lits {
         set.put(*lit, mark);
@@ -73,8 +80,8 @@ fn put_all(set: &mut LitSet, lits: &[Lit], mark: bool)
 // A literal of the variable that is in the set, and whose opposite is in the clause.
 fn pivot_of(set: &LitSet, clause: &[Lit], var: usize) -> Option<Lit>
     ensures { MatchOption result
-        ((pivot : Lit) → pivot.var ≡ var → marked set.now pivot ≡ true → Contains clause.now (opposite pivot) → ⊥)
-        (λ pivot. (pivot.var ≡ var) × (marked set.now pivot ≡ true) × Contains clause.now (opposite pivot)) }
+        ((pivot : Lit) → pivot.var ≡ var → mark_of set.now pivot ≡ true → Contains clause.now (opposite pivot) → ⊥)
+        (λ pivot. (pivot.var ≡ var) × (mark_of set.now pivot ≡ true) × Contains clause.now (opposite pivot)) }
 {
     for lit in clause {
         let pivot = lit.negated();
@@ -89,7 +96,8 @@ fn pivot_of(set: &LitSet, clause: &[Lit], var: usize) -> Option<Lit>
 fn resolve(set: &mut LitSet, clause: &[Lit], var: usize) -> bool
     requires { All (λ lit. lit.var < length set.old) clause.now }
     ensures vars { length set.new ≡ length set.old }
-    ensures yes { IsTrue result → (pivot : Lit) × (pivot.var ≡ var) × Resolves (members set.old) clause.now pivot (members set.new) }
+    ensures yes { IsTrue result → (pivot : Lit) × (pivot.var ≡ var)
+        × Resolves (members set.old) clause.now pivot (members set.new) }
     ensures no { result ≡ false → (pivot : Lit) → pivot.var ≡ var → Contains (members set.old) pivot
         → Contains clause.now (opposite pivot) → ⊥ }
 {
@@ -109,11 +117,12 @@ fn resolve(set: &mut LitSet, clause: &[Lit], var: usize) -> bool
 
 // Takes the steps from the literals of the set on, if all can be taken.
 fn take_steps(cnf: &[Clause], log: &[Chain], steps: &[Pivot], set: &mut LitSet) -> bool
-    requires { All (All (λ lit. lit.var < length set.old)) (numbered cnf.now log.now) }
+    requires { All (All (λ lit. lit.var < length set.old)) (clauses_by_number cnf.now log.now) }
     ensures vars { length set.new ≡ length set.old }
     ensures yes { IsTrue result → (clause : List Lit)
-        → Leads (numbered cnf.now log.now) (members set.old) steps.now clause ↔ SameLits (members set.new) clause }
-    ensures no { result ≡ false → (clause : List Lit) → Leads (numbered cnf.now log.now) (members set.old) steps.now clause → ⊥ }
+        → Leads (clauses_by_number cnf.now log.now) (members set.old) steps.now clause ↔ SameLits (members set.new) clause }
+    ensures no { result ≡ false → (clause : List Lit)
+        → Leads (clauses_by_number cnf.now log.now) (members set.old) steps.now clause → ⊥ }
 {
     for step in steps {
         match clause_at(cnf, log, step.clause) {
@@ -132,7 +141,7 @@ fn take_steps(cnf: &[Clause], log: &[Chain], steps: &[Pivot], set: &mut LitSet) 
 fn take_exactly(set: &mut LitSet, lits: &[Lit]) -> bool
     ensures vars { length set.new ≡ length set.old }
     ensures result { IsTrue result ↔ SameLits (members set.old) lits.now }
-    ensures empty { IsTrue result → (lit : Lit) → marked set.new lit ≡ false }
+    ensures empty { IsTrue result → (lit : Lit) → mark_of set.new lit ≡ false }
     ensures known { IsTrue result → All (λ lit. lit.var < length set.old) lits.now }
 {
     if !has_all(set, lits) {
@@ -143,18 +152,18 @@ fn take_exactly(set: &mut LitSet, lits: &[Lit]) -> bool
 }
 
 fn has_all(set: &LitSet, lits: &[Lit]) -> bool
-    ensures { IsTrue result ↔ All (λ lit. IsTrue (marked set.now lit)) lits.now }
+    ensures { IsTrue result ↔ All (λ lit. IsTrue (mark_of set.now lit)) lits.now }
 {
     lits.iter().all(|lit| set.has(*lit))
 }
 
 // Whether the chain follows from the clauses before it; if so, the set is empty again.
 fn follows(cnf: &[Clause], log: &[Chain], chain: &Chain, set: &mut LitSet) -> bool
-    requires known { All (All (λ lit. lit.var < length set.old)) (numbered cnf.now log.now) }
-    requires empty { (lit : Lit) → marked set.old lit ≡ false }
+    requires known { All (All (λ lit. lit.var < length set.old)) (clauses_by_number cnf.now log.now) }
+    requires empty { (lit : Lit) → mark_of set.old lit ≡ false }
     ensures vars { length set.new ≡ length set.old }
-    ensures result { IsTrue result ↔ Follows (numbered cnf.now log.now) chain.now }
-    ensures empty { IsTrue result → (lit : Lit) → marked set.new lit ≡ false }
+    ensures result { IsTrue result ↔ Follows (clauses_by_number cnf.now log.now) chain.now }
+    ensures empty { IsTrue result → (lit : Lit) → mark_of set.new lit ≡ false }
     ensures known { IsTrue result → All (λ lit. lit.var < length set.old) chain.now.clause }
 {
     match clause_at(cnf, log, chain.first) {
@@ -173,9 +182,9 @@ fn follows(cnf: &[Clause], log: &[Chain], chain: &Chain, set: &mut LitSet) -> bo
 
 // Empties the set after a chain that does not follow, in the time that its literals took.
 fn forget(cnf: &[Clause], log: &[Chain], chain: &Chain, set: &mut LitSet)
-    requires { All (All (λ lit. lit.var < length set.old)) (numbered cnf.now log.now) }
+    requires { All (All (λ lit. lit.var < length set.old)) (clauses_by_number cnf.now log.now) }
     ensures vars { length set.new ≡ length set.old }
-    ensures empty { (lit : Lit) → marked set.new lit ≡ false }
+    ensures empty { (lit : Lit) → mark_of set.new lit ≡ false }
 {
     forget_clause(cnf, log, chain.first, set);
     for step in chain.rest.as_slice() {
@@ -189,7 +198,7 @@ fn forget(cnf: &[Clause], log: &[Chain], chain: &Chain, set: &mut LitSet)
 
 fn clear(set: &mut LitSet)
     ensures vars { length set.new ≡ length set.old }
-    ensures empty { (lit : Lit) → marked set.new lit ≡ false }
+    ensures empty { (lit : Lit) → mark_of set.new lit ≡ false }
 {
     for var in 0..set.vars() {
         let yes = Lit {
@@ -202,7 +211,7 @@ fn clear(set: &mut LitSet)
 }
 
 fn forget_clause(cnf: &[Clause], log: &[Chain], number: usize, set: &mut LitSet)
-    requires { All (All (λ lit. lit.var < length set.old)) (numbered cnf.now log.now) }
+    requires { All (All (λ lit. lit.var < length set.old)) (clauses_by_number cnf.now log.now) }
     ensures { length set.new ≡ length set.old }
 {
     match clause_at(cnf, log, number) {
@@ -214,11 +223,10 @@ fn forget_clause(cnf: &[Clause], log: &[Chain], number: usize, set: &mut LitSet)
 // Whether each chain follows from the clauses before it.
 fn all_follow(cnf: &[Clause], log: &[Chain], set: &mut LitSet) -> bool
     requires known { All (All (λ lit. lit.var < length set.old)) cnf.now }
-    requires empty { (lit : Lit) → marked set.old lit ≡ false }
+    requires empty { (lit : Lit) → mark_of set.old lit ≡ false }
     ensures vars { length set.new ≡ length set.old }
-    ensures empty { (lit : Lit) → marked set.new lit ≡ false }
-    ensures result { IsTrue result ↔ ((k : ℕ) (none : Chain) → k < length log.now
-        → Follows (clauses_before cnf.now log.now k) (slice_index_or log.now k none)) }
+    ensures empty { (lit : Lit) → mark_of set.new lit ≡ false }
+    ensures result { IsTrue result ↔ EachFollows cnf.now log.now }
 {
     for i in 0..log.len() {
         let before = &log[..i];
@@ -232,7 +240,7 @@ fn all_follow(cnf: &[Clause], log: &[Chain], set: &mut LitSet) -> bool
 }
 
 fn ends_empty(log: &[Chain]) -> bool
-    ensures { IsTrue result ↔ ((front : List Chain) × (last : Chain) × (log.now ≡ front ++ last ∷ []) × (last.clause ≡ [])) }
+    ensures { IsTrue result ↔ EndsEmpty log.now }
 {
     match log.last() {
         Some(last) => last.clause.is_empty(),

@@ -1,7 +1,8 @@
 //! Derivations of the empty clause by resolution, and their check.
 //!
 //! A log is a list of chains over the clauses of a `Cnf`. Each chain tells how its clause follows from
-//! clauses before it. A log that derives the empty clause shows that no model exists.
+//! clauses before it. A log that derives the empty clause shows that no model exists. The main function is
+//! `check`; it may touch the bench that it is lent, and takes no memory.
 #![tactic(auto)]
 
 mod chain;

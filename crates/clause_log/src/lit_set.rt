@@ -1,6 +1,8 @@
+//! Sets of literals: `LitSet`, two marks for each variable, with the number of marks that are set.
+
 ghost use Rattle.std.specs.Prelude.{◌≡◌, ◌<◌, ◌↔◌, true, false, IsTrue, IfOk, length};
 ghost use Rattle.cnf.specs.declared.lit.Lit.{Lit};
-ghost use Rattle.clause_log.specs.Marks.{sign_mark, with_mark, marked, count, Put};
+ghost use Rattle.clause_log.specs.Marks.{sign_mark, with_mark, mark_of, mark_count, SetsMark};
 
 use cnf::Lit;
 use port_types::NoMemory;
@@ -43,7 +45,7 @@ impl Signs {
 }
 
 fn as_count(mark: bool) -> usize
-    ensures { result ≡ count mark }
+    ensures { result ≡ mark_count mark }
 {
     if mark { 1 } else { 0 }
 }
@@ -61,20 +63,20 @@ pub struct LitSet {
 impl Model for LitSet {
     ghost use Rattle.std.specs.Prelude.{List, ◌≡◌, ◌≤◌, ◌^◌, length, sum_by};
     ghost use Rattle.clause_log.specs.declared.lit_set.Signs.{Signs};
-    ghost use Rattle.clause_log.specs.Marks.{marks_set};
+    ghost use Rattle.clause_log.specs.Marks.{signs_count};
 
     ghost Value = { List Signs };
 
     ghost view = { λ s. s.marks.items };
 
-    ghost invariant = { λ s. (s.len ≡ sum_by marks_set s.marks.items) × (length s.marks.items ≤ 2 ^ 62) };
+    ghost invariant = { λ s. (s.len ≡ sum_by signs_count s.marks.items) × (length s.marks.items ≤ 2 ^ 62) };
 }
 
 impl LitSet {
     /// The empty set over so many variables.
     pub fn new(alloc: Global, vars: usize) -> Result<LitSet, NoMemory>
         ensures vars { IfOk result (λ set. length set ≡ vars) }
-        ensures empty { IfOk result (λ set. (lit : Lit) → marked set lit ≡ false) }
+        ensures empty { IfOk result (λ set. (lit : Lit) → mark_of set lit ≡ false) }
     {
         if vars > MOST {
             return Err(NoMemory);
@@ -90,7 +92,7 @@ impl LitSet {
     }
 
     pub fn has(&self, lit: Lit) -> bool
-        ensures { result ≡ marked self.now lit }
+        ensures { result ≡ mark_of self.now lit }
     {
         if lit.var < self.marks.len() {
             self.marks[lit.var].has(lit.positive)
@@ -99,11 +101,11 @@ impl LitSet {
         }
     }
 
-    /// Puts a literal into the set or takes it out.
+    /// SetsMarks a literal into the set or takes it out.
     pub fn put(&mut self, lit: Lit, mark: bool)
         requires { lit.var < length self.old }
         ensures vars { length self.new ≡ length self.old }
-        ensures put { Put self.old lit mark self.new }
+        ensures put { SetsMark self.old lit mark self.new }
     {
         let signs = self.marks[lit.var];
         let before = as_count(signs.has(lit.positive));
@@ -112,7 +114,7 @@ impl LitSet {
     }
 
     pub fn is_empty(&self) -> bool
-        ensures { IsTrue result ↔ ((lit : Lit) → marked self.now lit ≡ false) }
+        ensures { IsTrue result ↔ ((lit : Lit) → mark_of self.now lit ≡ false) }
     {
         self.len == 0
     }

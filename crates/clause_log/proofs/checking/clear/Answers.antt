@@ -10,4 +10,5 @@ loop-var-preserved c = record {
 
 pub returns-clause-empty : goal.returns-clause-empty
 returns-clause-empty c =
-    clear_whole c.loop-var.set c.loop-var.var (omega (arith, c.loop-var-test.false, c.vars-var-end.ensures, c.loop-var.invariant.vars)) c.loop-var.invariant.empty
+    clear_whole c.loop-var.set c.loop-var.var (omega (arith, c.loop-var-test.false, c.vars-var-end.ensures, c.loop-var.invariant.vars))
+    c.loop-var.invariant.empty
