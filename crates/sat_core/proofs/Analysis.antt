@@ -4,19 +4,19 @@ use Rattle.std.specs.Prelude.{IfSome}
 use Rattle.std.specs.Ordering.{ord_max, nat_cmp}
 use Rattle.std.proofs.lemmas.Bool.Decides.{nat_tests}
 use Rattle.clause_log.specs.Derivations.{Resolves}
-use Rattle.sat_core.specs.declared.chain.Link.{Link}
+use Rattle.sat_core.specs.declared.chain.Resolution.{Resolution}
 use Rattle.cnf.specs.declared.lit.Lit.{Lit}
 use Rattle.cnf.specs.Clauses.{opposite}
-use Rattle.sat_core.specs.declared.source.Source.{Source}
+use Rattle.sat_core.specs.declared.clause_ref.ClauseRef.{ClauseRef}
 use Rattle.sat_core.specs.declared.trail.Step.{Step}
-use Rattle.sat_core.specs.Search.{Known, known_from, Names, clause_of, Derived, MadeTrue, AllFalse, Forces, Justifies, Justified, IsTrail, lit_at, step_at, opens_level}
-use Rattle.sat_core.specs.Lessons.{OthersFalse, Agrees, Turns}
+use Rattle.sat_core.specs.Search.{ClauseLists, clause_lists, HasClause, clause_of, IsDerivation, MadeTrue, AllFalse, Forces, Justifies, Justified, IsTrail, lit_at, step_at, opens_level}
+use Rattle.sat_core.specs.Learning.{OthersFalse, SameReference, Asserts}
 use Rattle.sat_core.proofs.Trails.{opposite-opposite, MadeTrue-later, one_place, free_from_none, free_not_true, MadeTrue-within}
-use Rattle.sat_core.proofs.Chains.{before_or_at, named_without, Derived-push, Derived-start}
+use Rattle.sat_core.proofs.Chains.{before_or_at, named_without, IsDerivation-push, IsDerivation-start}
 use Rattle.sat_core.proofs.Members.{more_cases, no_lits}
 
-abbrev pub link_of : ℕ → Source → Link
-link_of var source = record { var = var; source = source }
+abbrev pub link_of : ℕ → ClauseRef → Resolution
+link_of var reason = record { var = var; reason = reason }
 
 some_same : (a b : ℕ) → Some a ≡ Some b → a ≡ b
 some_same a b e = cc
@@ -69,7 +69,7 @@ pub AllFalse-later : (steps : List Step) (n m : ℕ) (clause : List Lit) → n �
 AllFalse-later steps n m clause le all lit c = MadeTrue-later steps n m (opposite lit) le (all lit c)
 
 -- where an opening stands between the others and the literal, the clause turns the trail there
-pub turns_at : (steps : List Step) (places : List (Option ℕ)) (clause : List Lit) (at keep n : ℕ) → IsTrail steps places → at < length steps → Contains clause (opposite (lit_at steps at)) → OthersFalse steps n clause (opposite (lit_at steps at)) → n ≤ keep → keep < at + 1 → opens_level (step_at steps keep).source ≡ true → Turns steps clause (opposite (lit_at steps at)) keep
+pub turns_at : (steps : List Step) (places : List (Option ℕ)) (clause : List Lit) (at keep n : ℕ) → IsTrail steps places → at < length steps → Contains clause (opposite (lit_at steps at)) → OthersFalse steps n clause (opposite (lit_at steps at)) → n ≤ keep → keep < at + 1 → opens_level (step_at steps keep).reason ≡ true → Asserts steps clause (opposite (lit_at steps at)) keep
 turns_at steps places clause at keep n trail h has others le lt opens = record {
   within = omega arith;
   opens = opens;
@@ -82,44 +82,44 @@ turns_at steps places clause at keep n trail h has others le lt opens = record {
       absurd (omega arith);
 }
 
--- the source of a step that opens no level names the same clause without assumptions
-pub agrees_without : (added learnt : List (List Lit)) (assumed : List Lit) (steps : List Step) (place : ℕ) (lit : Lit) (source : Option Source) → opens_level source ≡ false → Justifies (known_from added learnt assumed) steps place lit source → Agrees (known_from added learnt []) (known_from added learnt assumed) source
+-- the reason of a step that opens no level names the same clause without assumptions
+pub agrees_without : (added learnt : List (List Lit)) (assumed : List Lit) (steps : List Step) (place : ℕ) (lit : Lit) (reason : Option ClauseRef) → opens_level reason ≡ false → Justifies (clause_lists added learnt assumed) steps place lit reason → SameReference (clause_lists added learnt []) (clause_lists added learnt assumed) reason
 agrees_without added learnt assumed steps place lit None o j = tt
-agrees_without added learnt assumed steps place lit (Some source) o j = named_without added learnt assumed source o j.0
+agrees_without added learnt assumed steps place lit (Some reason) o j = named_without added learnt assumed reason o j.0
 
--- a source names the same clause as itself
-pub agrees_self : (k : Known) (steps : List Step) (place : ℕ) (lit : Lit) (source : Option Source) → Justifies k steps place lit source → Agrees k k source
+-- a reason names the same clause as itself
+pub agrees_self : (k : ClauseLists) (steps : List Step) (place : ℕ) (lit : Lit) (reason : Option ClauseRef) → Justifies k steps place lit reason → SameReference k k reason
 agrees_self k steps place lit None j = tt
-agrees_self k steps place lit (Some source) j = (j.0, refl)
+agrees_self k steps place lit (Some reason) j = (j.0, refl)
 
 -- a step that opens no level was forced
-pub forced_of : (source : Option Source) → opens_level source ≡ false → source ≡ None → ⊥
+pub forced_of : (reason : Option ClauseRef) → opens_level reason ≡ false → reason ≡ None → ⊥
 forced_of None o e = cc
 forced_of (Some s) o e = cc
 
-pub turning_some : (steps : List Step) (places : List (Option ℕ)) (clause : List Lit) (at n : ℕ) (lit : Lit) (found : Option ℕ) → lit ≡ opposite (lit_at steps at) → IsTrail steps places → at < length steps → Contains clause lit → OthersFalse steps n clause lit → IfSome found (λ place. (n ≤ place) × (place < at + 1) × (opens_level (step_at steps place).source ≡ true)) → IfSome found (λ keep. Turns steps clause (opposite (lit_at steps at)) keep)
+pub turning_some : (steps : List Step) (places : List (Option ℕ)) (clause : List Lit) (at n : ℕ) (lit : Lit) (found : Option ℕ) → lit ≡ opposite (lit_at steps at) → IsTrail steps places → at < length steps → Contains clause lit → OthersFalse steps n clause lit → IfSome found (λ place. (n ≤ place) × (place < at + 1) × (opens_level (step_at steps place).reason ≡ true)) → IfSome found (λ keep. Asserts steps clause (opposite (lit_at steps at)) keep)
 turning_some steps places clause at n lit None e trail h has others found = tt
 turning_some steps places clause at n lit (Some keep) e trail h has others found =
     turns_at steps places clause at keep n trail h (subst (λ (l : Lit). Contains clause l) e has) (subst (λ (l : Lit). OthersFalse steps n clause l) e others) found.0 found.1 found.2
 
--- what justifies a step with a source
-pub justified_by : (k : Known) (steps : List Step) (at : ℕ) (step : Step) (source : Source) → Justified k steps → at < length steps → step ≡ step_at steps at → step.source ≡ Some source → Names k source × Forces steps at (clause_of k source) step.lit
-justified_by k steps at step source justified h e is =
-    let j = subst (λ (s : Step). Justifies k steps at s.lit s.source) (sym e) (justified at h) in
-    subst (λ (o : Option Source). Justifies k steps at step.lit o) is j
+-- what justifies a step with a reason
+pub justified_by : (k : ClauseLists) (steps : List Step) (at : ℕ) (step : Step) (reason : ClauseRef) → Justified k steps → at < length steps → step ≡ step_at steps at → step.reason ≡ Some reason → HasClause k reason × Forces steps at (clause_of k reason) step.lit
+justified_by k steps at step reason justified h e is =
+    let j = subst (λ (s : Step). Justifies k steps at s.lit s.reason) (sym e) (justified at h) in
+    subst (λ (o : Option ClauseRef). Justifies k steps at step.lit o) is j
 
-pub derived_step : (k kf : Known) (steps : List Step) (at : ℕ) (step : Step) (source first new_first : Source) (links new_links : List Link) (left after : List Lit) → step ≡ step_at steps at → step.source ≡ Some source → Agrees k kf (step_at steps at).source → Resolves left (clause_of kf source) (opposite step.lit) after → new_first ≡ first → new_links ≡ links ++ link_of step.lit.var source ∷ [] → Derived k first links left → Derived k new_first new_links after
-derived_step k kf steps at step source first new_first links new_links left after e is agrees r f l d =
-    let a = subst (λ (o : Option Source). Agrees k kf o) (ap (λ (s : Step). s.source) (sym e) ∙ is) agrees in
+pub derived_step : (k kf : ClauseLists) (steps : List Step) (at : ℕ) (step : Step) (reason first new_first : ClauseRef) (resolutions new_links : List Resolution) (left after : List Lit) → step ≡ step_at steps at → step.reason ≡ Some reason → SameReference k kf (step_at steps at).reason → Resolves left (clause_of kf reason) (opposite step.lit) after → new_first ≡ first → new_links ≡ resolutions ++ link_of step.lit.var reason ∷ [] → IsDerivation k first resolutions left → IsDerivation k new_first new_links after
+derived_step k kf steps at step reason first new_first resolutions new_links left after e is agrees r f l d =
+    let a = subst (λ (o : Option ClauseRef). SameReference k kf o) (ap (λ (s : Step). s.reason) (sym e) ∙ is) agrees in
     let r2 = subst (λ (c : List Lit). Resolves left c (opposite step.lit) after) (sym a.1) r in
-    let pushed = Derived-push k first left after links (link_of step.lit.var source) (opposite step.lit) d a.0 refl r2 in
-    subst (λ (s : Source). Derived k s new_links after) (sym f) (subst (λ (ls : List Link). Derived k first ls after) (sym l) pushed)
+    let pushed = IsDerivation-push k first left after resolutions (link_of step.lit.var reason) (opposite step.lit) d a.0 refl r2 in
+    subst (λ (s : ClauseRef). IsDerivation k s new_links after) (sym f) (subst (λ (ls : List Resolution). IsDerivation k first ls after) (sym l) pushed)
 
-pub derived_start : (k : Known) (first new_first : Source) (links : List Link) (lits : List Lit) → lits ≡ clause_of k first → new_first ≡ first → links ≡ [] → Names k first → Derived k new_first links lits
-derived_start k first new_first links lits e f l named =
-    subst (λ (s : Source). Derived k s links lits) (sym f)
-    (subst (λ (ls : List Link). Derived k first ls lits) (sym l)
-    (subst (λ (c : List Lit). Derived k first [] c) (sym e) (Derived-start k first named)))
+pub derived_start : (k : ClauseLists) (first new_first : ClauseRef) (resolutions : List Resolution) (lits : List Lit) → lits ≡ clause_of k first → new_first ≡ first → resolutions ≡ [] → HasClause k first → IsDerivation k new_first resolutions lits
+derived_start k first new_first resolutions lits e f l named =
+    subst (λ (s : ClauseRef). IsDerivation k s resolutions lits) (sym f)
+    (subst (λ (ls : List Resolution). IsDerivation k first ls lits) (sym l)
+    (subst (λ (c : List Lit). IsDerivation k first [] c) (sym e) (IsDerivation-start k first named)))
 
 pub AllFalse-at : (steps : List Step) (n m : ℕ) (clause same : List Lit) → n ≡ m → same ≡ clause → AllFalse steps n clause → AllFalse steps m same
 AllFalse-at steps n m clause same e f all = subst (λ k. AllFalse steps k same) e (subst (λ c. AllFalse steps n c) (sym f) all)

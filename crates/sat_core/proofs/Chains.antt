@@ -4,11 +4,11 @@ use Rattle.std.proofs.lemmas.Bool.{cases_eq}
 use Rattle.cnf.specs.declared.lit.Lit.{Lit}
 use Rattle.cnf.specs.Clauses.{opposite}
 use Rattle.clause_log.specs.Derivations.{SameLits, Resolves}
-use Rattle.sat_core.specs.declared.source.Source.{Source}
-use Rattle.sat_core.specs.declared.source.Source.TheVariants.{Added, Learnt, Assumed}
+use Rattle.sat_core.specs.declared.clause_ref.ClauseRef.{ClauseRef}
+use Rattle.sat_core.specs.declared.clause_ref.ClauseRef.TheVariants.{Added, Learnt, Assumed}
 use Rattle.sat_core.specs.declared.trail.Step.{Step}
-use Rattle.sat_core.specs.declared.chain.Link.{Link}
-use Rattle.sat_core.specs.Search.{Known, known_from, Names, clause_of, Reaches, Derived, lit_at, MadeTrue, AllFalse, Forces, opens_level, IsWithout, IsJoined}
+use Rattle.sat_core.specs.declared.chain.Resolution.{Resolution}
+use Rattle.sat_core.specs.Search.{ClauseLists, clause_lists, HasClause, clause_of, ResolvesTo, IsDerivation, lit_at, MadeTrue, AllFalse, Forces, opens_level, IsWithout, IsJoined}
 use Rattle.sat_core.proofs.Trails.{opposite-opposite}
 
 pub same-refl : (xs : List Lit) → SameLits xs xs
@@ -18,25 +18,25 @@ resolves-same : (xs ys right after : List Lit) (pivot : Lit) → SameLits xs ys 
 resolves-same xs ys right after pivot s r = record {
   on_left = (s pivot).1 r.on_left;
   on_right = r.on_right;
-  joined = λ lit. (
-    λ h. elim ((r.joined lit).0 h) [ inl l ↦ inl ((s lit).1 l.0, l.1) | inr x ↦ inr x ],
-    λ h. (r.joined lit).1 (elim h [ inl l ↦ inl ((s lit).0 l.0, l.1) | inr x ↦ inr x ]),
+  resolvent = λ lit. (
+    λ h. elim ((r.resolvent lit).0 h) [ inl l ↦ inl ((s lit).1 l.0, l.1) | inr x ↦ inr x ],
+    λ h. (r.resolvent lit).1 (elim h [ inl l ↦ inl ((s lit).0 l.0, l.1) | inr x ↦ inr x ]),
   );
 }
 
 -- one resolution more
-pub Reaches-push : (k : Known) (so_far mid after : List Lit) (links : List Link) (link : Link) (pivot : Lit) → Reaches k so_far links mid → Names k link.source → pivot.var ≡ link.var → Resolves mid (clause_of k link.source) pivot after → Reaches k so_far (links ++ link ∷ []) after
-Reaches-push k so_far mid after [] link pivot h names var r =
-    (names, (pivot, after, var, resolves-same so_far mid (clause_of k link.source) after pivot h r, same-refl after))
-Reaches-push k so_far mid after (l ∷ links) link pivot h names var r =
-    (h.0, (h.1.0, h.1.1, h.1.2, h.1.3, Reaches-push k h.1.1 mid after links link pivot h.1.4 names var r))
+pub ResolvesTo-push : (k : ClauseLists) (so_far mid after : List Lit) (resolutions : List Resolution) (resolution : Resolution) (pivot : Lit) → ResolvesTo k so_far resolutions mid → HasClause k resolution.reason → pivot.var ≡ resolution.var → Resolves mid (clause_of k resolution.reason) pivot after → ResolvesTo k so_far (resolutions ++ resolution ∷ []) after
+ResolvesTo-push k so_far mid after [] resolution pivot h names var r =
+    (names, (pivot, after, var, resolves-same so_far mid (clause_of k resolution.reason) after pivot h r, same-refl after))
+ResolvesTo-push k so_far mid after (l ∷ resolutions) resolution pivot h names var r =
+    (h.0, (h.1.0, h.1.1, h.1.2, h.1.3, ResolvesTo-push k h.1.1 mid after resolutions resolution pivot h.1.4 names var r))
 
-pub Derived-push : (k : Known) (first : Source) (mid after : List Lit) (links : List Link) (link : Link) (pivot : Lit) → Derived k first links mid → Names k link.source → pivot.var ≡ link.var → Resolves mid (clause_of k link.source) pivot after → Derived k first (links ++ link ∷ []) after
-Derived-push k first mid after links link pivot d names var r =
-    record { named = d.named; reached = Reaches-push k (clause_of k first) mid after links link pivot d.reached names var r }
+pub IsDerivation-push : (k : ClauseLists) (first : ClauseRef) (mid after : List Lit) (resolutions : List Resolution) (resolution : Resolution) (pivot : Lit) → IsDerivation k first resolutions mid → HasClause k resolution.reason → pivot.var ≡ resolution.var → Resolves mid (clause_of k resolution.reason) pivot after → IsDerivation k first (resolutions ++ resolution ∷ []) after
+IsDerivation-push k first mid after resolutions resolution pivot d names var r =
+    record { named = d.named; reached = ResolvesTo-push k (clause_of k first) mid after resolutions resolution pivot d.reached names var r }
 
-pub Derived-start : (k : Known) (first : Source) → Names k first → Derived k first [] (clause_of k first)
-Derived-start k first names = record { named = names; reached = same-refl (clause_of k first) }
+pub IsDerivation-start : (k : ClauseLists) (first : ClauseRef) → HasClause k first → IsDerivation k first [] (clause_of k first)
+IsDerivation-start k first names = record { named = names; reached = same-refl (clause_of k first) }
 
 -- made true before the place after, or there
 pub before_or_at : (steps : List Step) (n at : ℕ) (lit : Lit) → n ≡ at + 1 → MadeTrue steps n lit → MadeTrue steps at lit ⊎ (lit_at steps at ≡ lit)
@@ -57,7 +57,7 @@ skip_false steps n at clause e false' unused lit has =
 -- a resolution with the reason of the literal leaves literals that were false before it
 pub resolve_false : (steps : List Step) (n at : ℕ) (left clause after : List Lit) (lit : Lit) → n ≡ at + 1 → lit_at steps at ≡ lit → AllFalse steps n left → Forces steps at clause lit → Resolves left clause (opposite lit) after → AllFalse steps at after
 resolve_false steps n at left clause after lit e is false' forces r m has =
-    elim ((r.joined m).0 has) [
+    elim ((r.resolvent m).0 has) [
       | inl l ↦ elim (before_or_at steps n at (opposite m) e (false' m l.0)) [
         | inl before ↦ before
         | inr here ↦ absurd (l.1 (sym (opposite-opposite m) ∙ ap opposite (sym here ∙ is)))
@@ -78,12 +78,12 @@ none_false steps (x ∷ xs) h = absurd (omega (arith, (h x (Contains-head x xs))
 
 -- the removal of a literal from one side and of its opposite from the other
 pub resolves_from : (left right mid after : List Lit) (lit : Lit) → Contains left (opposite lit) → Contains right lit → ((m : Lit) → (Contains mid m → Contains left m × (m ≢ opposite lit)) × (Contains left m × (m ≢ opposite lit) → Contains mid m)) → ((m : Lit) → (Contains after m → Contains mid m ⊎ (Contains right m × (m ≢ lit))) × (Contains mid m ⊎ (Contains right m × (m ≢ lit)) → Contains after m)) → Resolves left right (opposite lit) after
-resolves_from left right mid after lit on_left on_right dropped joined = record {
+resolves_from left right mid after lit on_left on_right dropped resolvent = record {
   on_left = on_left;
   on_right = subst (λ l. Contains right l) (sym (opposite-opposite lit)) on_right;
-  joined = λ m. (
-    λ h. elim ((joined m).0 h) [ inl x ↦ inl ((dropped m).0 x) | inr y ↦ inr (y.0, λ e. y.1 (e ∙ opposite-opposite lit)) ],
-    λ h. (joined m).1 (elim h [ inl x ↦ inl ((dropped m).1 x) | inr y ↦ inr (y.0, λ e. y.1 (e ∙ sym (opposite-opposite lit))) ]),
+  resolvent = λ m. (
+    λ h. elim ((resolvent m).0 h) [ inl x ↦ inl ((dropped m).0 x) | inr y ↦ inr (y.0, λ e. y.1 (e ∙ opposite-opposite lit)) ],
+    λ h. (resolvent m).1 (elim h [ inl x ↦ inl ((dropped m).1 x) | inr y ↦ inr (y.0, λ e. y.1 (e ∙ sym (opposite-opposite lit))) ]),
   );
 }
 
@@ -95,7 +95,7 @@ resolved left right mid after sl r lit neg e1 e2 e3 d j on_left on_right =
     resolves_from left right mid after lit on_left on_right d2 j1
 
 -- a clause that was added or learnt needs no assumption
-pub named_without : (added learnt : List (List Lit)) (assumed : List Lit) (source : Source) → opens_level (Some source) ≡ false → Names (known_from added learnt assumed) source → Names (known_from added learnt []) source × (clause_of (known_from added learnt []) source ≡ clause_of (known_from added learnt assumed) source)
+pub named_without : (added learnt : List (List Lit)) (assumed : List Lit) (reason : ClauseRef) → opens_level (Some reason) ≡ false → HasClause (clause_lists added learnt assumed) reason → HasClause (clause_lists added learnt []) reason × (clause_of (clause_lists added learnt []) reason ≡ clause_of (clause_lists added learnt assumed) reason)
 named_without added learnt assumed (Added place) o n = (n, refl)
 named_without added learnt assumed (Learnt place) o n = (n, refl)
 named_without added learnt assumed (Assumed place) o n = absurd (cc)

@@ -1,6 +1,6 @@
 -- Why a search ends: each push and each return lowers a weight of the trail.
 use Rattle.std.proofs.Common.{◌≡◌, ◌<◌, ◌≤◌, ℕ, zero, suc, Bool, true, false, List, [], ◌∷◌, ◌++◌, length, take, get_or, refl, arith}
-use Rattle.sat_core.specs.Search.{room, weight}
+use Rattle.sat_core.specs.Search.{full_weight, weight}
 
 pub weight-pos : (n : ℕ) (bs : List Bool) → length bs ≤ n → 0 < weight n bs
 weight-pos zero [] h = omega arith
@@ -9,7 +9,7 @@ weight-pos zero (b ∷ bs) h = absurd (omega arith)
 weight-pos (suc n) (true ∷ bs) h = omega (arith, weight-pos n bs (omega arith))
 weight-pos (suc n) (false ∷ bs) h = weight-pos n bs (omega arith)
 
-pub weight-nil : (n : ℕ) → weight n [] ≡ room n
+pub weight-nil : (n : ℕ) → weight n [] ≡ full_weight n
 weight-nil zero = refl
 weight-nil (suc n) = refl
 

@@ -49,8 +49,8 @@ module _ (xs : List Lit) (i : ℕ) (x : Lit) (h : i < length xs) (e : x ≡ get_
     ],
   )
 
-  pub joined-keep : (old : List Lit) (but : Lit) (all : List Lit) → (x ≡ but → ⊥) → IsJoined old (take i xs) but all → IsJoined old (take (i + 1) xs) but (all ++ x ∷ [])
-  joined-keep old but all n j m = (
+  pub resolvent-keep : (old : List Lit) (but : Lit) (all : List Lit) → (x ≡ but → ⊥) → IsJoined old (take i xs) but all → IsJoined old (take (i + 1) xs) but (all ++ x ∷ [])
+  resolvent-keep old but all n j m = (
     λ c. elim (Contains-push_cases all x m c) [
       | inl was ↦ elim ((j m).0 was) [ inl o ↦ inl o | inr t ↦ inr (more_old m t.0, t.1) ]
       | inr new ↦ inr (subst (λ l. Contains (take (i + 1) xs) l) new more_new, λ q. n (new ∙ q))
@@ -64,8 +64,8 @@ module _ (xs : List Lit) (i : ℕ) (x : Lit) (h : i < length xs) (e : x ≡ get_
     ],
   )
 
-  pub joined-there : (old : List Lit) (but : Lit) (all : List Lit) → (x ≡ but) ⊎ Contains all x → IsJoined old (take i xs) but all → IsJoined old (take (i + 1) xs) but all
-  joined-there old but all d j m = (
+  pub resolvent-there : (old : List Lit) (but : Lit) (all : List Lit) → (x ≡ but) ⊎ Contains all x → IsJoined old (take i xs) but all → IsJoined old (take (i + 1) xs) but all
+  resolvent-there old but all d j m = (
     λ c. elim ((j m).0 c) [ inl o ↦ inl o | inr t ↦ inr (more_old m t.0, t.1) ],
     λ c. elim c [
       | inl o ↦ (j m).1 (inl o)
@@ -82,5 +82,5 @@ module _ (xs : List Lit) (i : ℕ) (x : Lit) (h : i < length xs) (e : x ≡ get_
 pub without-start : (xs : List Lit) (lit : Lit) (out : List Lit) → out ≡ [] → IsWithout (take 0 xs) lit out
 without-start xs lit out e m = (λ c. absurd (no_lits m (subst (λ l. Contains l m) e c)), λ c. absurd (no_lits m c.0))
 
-pub joined-start : (xs : List Lit) (but : Lit) (all : List Lit) → IsJoined all (take 0 xs) but all
-joined-start xs but all m = (λ c. inl c, λ c. elim c [ inl o ↦ o | inr t ↦ absurd (no_lits m t.0) ])
+pub resolvent-start : (xs : List Lit) (but : Lit) (all : List Lit) → IsJoined all (take 0 xs) but all
+resolvent-start xs but all m = (λ c. inl c, λ c. elim c [ inl o ↦ o | inr t ↦ absurd (no_lits m t.0) ])

@@ -6,11 +6,11 @@ use Rattle.std.proofs.lemmas.List.{get_or_append_left, get_or-append_right, get_
 use Rattle.std.proofs.lemmas.Bool.{cases_lt, cases_eq}
 use Rattle.cnf.specs.declared.lit.Lit.{Lit}
 use Rattle.cnf.specs.Clauses.{opposite, lit_holds, clause_holds, IsModel}
-use Rattle.sat_core.specs.declared.source.Source.TheVariants.{Added}
+use Rattle.sat_core.specs.declared.clause_ref.ClauseRef.TheVariants.{Added}
 use Rattle.sat_core.specs.declared.trail.Step.{Step}
-use Rattle.sat_core.specs.Search.{known_from, unit_clause, MadeTrue, AllFalse, AssumptionsTrue, IsTrail, AllWithin, lit_at}
-use Rattle.sat_core.specs.Found.{NoneFalsified}
-use Rattle.sat_core.specs.Choices.{AllPlaced}
+use Rattle.sat_core.specs.Search.{clause_lists, unit_clause, MadeTrue, AllFalse, AssumptionsTrue, IsTrail, AllWithin, lit_at}
+use Rattle.sat_core.specs.Found.{NothingFalsified}
+use Rattle.sat_core.specs.Decisions.{AllAssigned}
 use Rattle.sat_core.proofs.Trails.{same_lit, other_sign, MadeTrue-within}
 use Rattle.sat_core.proofs.Members.{any_lit}
 
@@ -58,7 +58,7 @@ bool_same true false = inr (λ e. cc)
 bool_same false true = inr (λ e. cc)
 bool_same false false = inl refl
 
-module _ (steps : List Step) (places : List (Option ℕ)) (trail : IsTrail steps places) (placed : AllPlaced places) where
+module _ (steps : List Step) (places : List (Option ℕ)) (trail : IsTrail steps places) (placed : AllAssigned places) where
   placed_at : (v : ℕ) (o : Option ℕ) → v < length places → get_or places v None ≡ o → (p : ℕ) × (p < length steps) × ((lit_at steps p).var ≡ v)
   placed_at v None h e = absurd (placed v h e)
   placed_at v (Some p) h e = let on = trail.stands v p e in (p, on.0, on.1)
@@ -81,7 +81,7 @@ module _ (steps : List Step) (places : List (Option ℕ)) (trail : IsTrail steps
         | inr f ↦ f
       ]))
 
-  pub model_from : (added learnt : List (List Lit)) (assumed : List Lit) (values : List Bool) (n : ℕ) → length values ≡ n → Reflects steps values → AllWithin (length places) added → NoneFalsified (known_from added learnt assumed) steps → AssumptionsTrue (known_from added learnt assumed) steps (length steps) → IsModel n (added ++ map unit_clause assumed) values
+  pub model_from : (added learnt : List (List Lit)) (assumed : List Lit) (values : List Bool) (n : ℕ) → length values ≡ n → Reflects steps values → AllWithin (length places) added → NothingFalsified (clause_lists added learnt assumed) steps → AssumptionsTrue (clause_lists added learnt assumed) steps (length steps) → IsModel n (added ++ map unit_clause assumed) values
   model_from added learnt assumed values n len r within quiet assumptions = record {
     vars = len;
     holds = all_true (clause_holds values) (added ++ map unit_clause assumed) (λ k h.
@@ -108,7 +108,7 @@ reflects_next steps values new n b len e old here lit t h =
       | inr other ↦ get_or_append_left values (b ∷ []) false lit.var (omega (arith, other)) ∙ old lit t (omega (arith, other))
     ]
 
-pub model_of : (steps : List Step) (places : List (Option ℕ)) (added learnt : List (List Lit)) (assumed : List Lit) (values model : List Bool) (n : ℕ) → model ≡ values → length values ≡ n → length places ≤ n → n ≤ length places → IsTrail steps places → AllPlaced places → AllWithin (length places) added → NoneFalsified (known_from added learnt assumed) steps → AssumptionsTrue (known_from added learnt assumed) steps (length steps) → ((lit : Lit) → MadeTrue steps (length steps) lit → lit.var < n → get_or values lit.var false ≡ lit.positive) → IsModel (length places) (added ++ map unit_clause assumed) model
+pub model_of : (steps : List Step) (places : List (Option ℕ)) (added learnt : List (List Lit)) (assumed : List Lit) (values model : List Bool) (n : ℕ) → model ≡ values → length values ≡ n → length places ≤ n → n ≤ length places → IsTrail steps places → AllAssigned places → AllWithin (length places) added → NothingFalsified (clause_lists added learnt assumed) steps → AssumptionsTrue (clause_lists added learnt assumed) steps (length steps) → ((lit : Lit) → MadeTrue steps (length steps) lit → lit.var < n → get_or values lit.var false ≡ lit.positive) → IsModel (length places) (added ++ map unit_clause assumed) model
 model_of steps places added learnt assumed values model n e len ge le trail placed within quiet assumptions reflects =
     let r : Reflects steps values = λ lit t. let w = MadeTrue-within steps places trail lit t in (omega (arith, w), reflects lit t (omega (arith, w))) in
     subst (λ (m : List Bool). IsModel (length places) (added ++ map unit_clause assumed) m) (sym e)

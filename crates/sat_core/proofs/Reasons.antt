@@ -4,16 +4,16 @@ use Rattle.std.proofs.lemmas.List.{get_or_append_left, length_push, length-take,
 use Rattle.std.proofs.lemmas.Bool.{cases_lt}
 use Rattle.cnf.specs.declared.lit.Lit.{Lit}
 use Rattle.cnf.specs.Clauses.{opposite}
-use Rattle.sat_core.specs.declared.source.Source.{Source}
-use Rattle.sat_core.specs.declared.source.Source.TheVariants.{Added, Learnt, Assumed}
+use Rattle.sat_core.specs.declared.clause_ref.ClauseRef.{ClauseRef}
+use Rattle.sat_core.specs.declared.clause_ref.ClauseRef.TheVariants.{Added, Learnt, Assumed}
 use Rattle.sat_core.specs.declared.trail.Step.{Step}
-use Rattle.sat_core.specs.Search.{Known, known_from, Names, clause_of, opens_level, Forces, Justifies, Justified, IsTrail, lit_at, step_at, no_step, levels, trail_weight, weight}
+use Rattle.sat_core.specs.Search.{ClauseLists, clause_lists, HasClause, clause_of, opens_level, Forces, Justifies, Justified, IsTrail, lit_at, step_at, no_step, level_marks, trail_weight, weight}
 use Rattle.sat_core.proofs.Trails.{step_at-push, step_at-last, step_at-take, MadeTrue-push, MadeTrue-take, counted_le}
 use Rattle.sat_core.proofs.Measure.{weight-push, weight-return}
 
-Justifies-push : (k : Known) (steps : List Step) (step : Step) (place : ℕ) (lit : Lit) (source : Option Source) → place ≤ length steps → Justifies k steps place lit source → Justifies k (steps ++ step ∷ []) place lit source
+Justifies-push : (k : ClauseLists) (steps : List Step) (step : Step) (place : ℕ) (lit : Lit) (reason : Option ClauseRef) → place ≤ length steps → Justifies k steps place lit reason → Justifies k (steps ++ step ∷ []) place lit reason
 Justifies-push k steps step place lit None h j = λ n w a e. MadeTrue-push steps step place a h (j n w a e)
-Justifies-push k steps step place lit (Some source) h j = (
+Justifies-push k steps step place lit (Some reason) h j = (
   j.0,
   record {
     has = j.1.has;
@@ -21,9 +21,9 @@ Justifies-push k steps step place lit (Some source) h j = (
   },
 )
 
-Justifies-take : (k : Known) (steps : List Step) (keep place : ℕ) (lit : Lit) (source : Option Source) → place ≤ keep → Justifies k steps place lit source → Justifies k (take keep steps) place lit source
+Justifies-take : (k : ClauseLists) (steps : List Step) (keep place : ℕ) (lit : Lit) (reason : Option ClauseRef) → place ≤ keep → Justifies k steps place lit reason → Justifies k (take keep steps) place lit reason
 Justifies-take k steps keep place lit None h j = λ n w a e. MadeTrue-take steps keep place a h (j n w a e)
-Justifies-take k steps keep place lit (Some source) h j = (
+Justifies-take k steps keep place lit (Some reason) h j = (
   j.0,
   record {
     has = j.1.has;
@@ -31,68 +31,68 @@ Justifies-take k steps keep place lit (Some source) h j = (
   },
 )
 
-pub Justified-push : (k : Known) (steps : List Step) (step : Step) → Justified k steps → Justifies k steps (length steps) step.lit step.source → Justified k (steps ++ step ∷ [])
+pub Justified-push : (k : ClauseLists) (steps : List Step) (step : Step) → Justified k steps → Justifies k steps (length steps) step.lit step.reason → Justified k (steps ++ step ∷ [])
 Justified-push k steps step old here = λ place h.
     let new = steps ++ step ∷ [] in
     elim (cases_lt place (length steps)) [
-      | inl before ↦ subst (λ (s : Step). Justifies k new place s.lit s.source) (sym (step_at-push steps step place before)) (Justifies-push k steps step place (lit_at steps place) (step_at steps place).source (omega arith) (old place before))
+      | inl before ↦ subst (λ (s : Step). Justifies k new place s.lit s.reason) (sym (step_at-push steps step place before)) (Justifies-push k steps step place (lit_at steps place) (step_at steps place).reason (omega arith) (old place before))
       | inr past ↦
           let at : length steps ≡ place = omega (arith, length_push steps step) in
-          subst (λ p. Justifies k new p (lit_at new p) (step_at new p).source) at
-          (subst (λ (s : Step). Justifies k new (length steps) s.lit s.source) (sym (step_at-last steps step)) (Justifies-push k steps step (length steps) step.lit step.source (omega arith) here))
+          subst (λ p. Justifies k new p (lit_at new p) (step_at new p).reason) at
+          (subst (λ (s : Step). Justifies k new (length steps) s.lit s.reason) (sym (step_at-last steps step)) (Justifies-push k steps step (length steps) step.lit step.reason (omega arith) here))
     ]
 
-pub Justified-take : (k : Known) (steps : List Step) (keep : ℕ) → Justified k steps → Justified k (take keep steps)
+pub Justified-take : (k : ClauseLists) (steps : List Step) (keep : ℕ) → Justified k steps → Justified k (take keep steps)
 Justified-take k steps keep old = λ place h.
     let short = length-take keep steps in
     let a : place < keep = omega arith in
     let b : place < length steps = omega arith in
-    subst (λ (s : Step). Justifies k (take keep steps) place s.lit s.source) (sym (step_at-take steps keep place a)) (Justifies-take k steps keep place (lit_at steps place) (step_at steps place).source (omega arith) (old place b))
+    subst (λ (s : Step). Justifies k (take keep steps) place s.lit s.reason) (sym (step_at-take steps keep place a)) (Justifies-take k steps keep place (lit_at steps place) (step_at steps place).reason (omega arith) (old place b))
 
 -- a clause more among those learnt
-pub named_grown : (added learnt : List (List Lit)) (assumed clause : List Lit) (source : Source) → Names (known_from added learnt assumed) source → Names (known_from added (learnt ++ clause ∷ []) assumed) source × (clause_of (known_from added (learnt ++ clause ∷ []) assumed) source ≡ clause_of (known_from added learnt assumed) source)
+pub named_grown : (added learnt : List (List Lit)) (assumed clause : List Lit) (reason : ClauseRef) → HasClause (clause_lists added learnt assumed) reason → HasClause (clause_lists added (learnt ++ clause ∷ []) assumed) reason × (clause_of (clause_lists added (learnt ++ clause ∷ []) assumed) reason ≡ clause_of (clause_lists added learnt assumed) reason)
 named_grown added learnt assumed clause (Added p) n = (n, refl)
 named_grown added learnt assumed clause (Learnt p) n = (omega (arith, n, length_push learnt clause), get_or_append_left learnt (clause ∷ []) [] p n)
 named_grown added learnt assumed clause (Assumed p) n = (n, refl)
 
-Justifies-grown : (added learnt : List (List Lit)) (assumed clause : List Lit) (steps : List Step) (place : ℕ) (lit : Lit) (source : Option Source) → Justifies (known_from added learnt assumed) steps place lit source → Justifies (known_from added (learnt ++ clause ∷ []) assumed) steps place lit source
+Justifies-grown : (added learnt : List (List Lit)) (assumed clause : List Lit) (steps : List Step) (place : ℕ) (lit : Lit) (reason : Option ClauseRef) → Justifies (clause_lists added learnt assumed) steps place lit reason → Justifies (clause_lists added (learnt ++ clause ∷ []) assumed) steps place lit reason
 Justifies-grown added learnt assumed clause steps place lit None j = j
-Justifies-grown added learnt assumed clause steps place lit (Some source) j =
-    let g = named_grown added learnt assumed clause source j.0 in
+Justifies-grown added learnt assumed clause steps place lit (Some reason) j =
+    let g = named_grown added learnt assumed clause reason j.0 in
     (g.0, subst (λ (c : List Lit). Forces steps place c lit) (sym g.1) j.1)
 
-pub Justified-grown : (added learnt : List (List Lit)) (assumed clause : List Lit) (steps : List Step) → Justified (known_from added learnt assumed) steps → Justified (known_from added (learnt ++ clause ∷ []) assumed) steps
-Justified-grown added learnt assumed clause steps old = λ place h. Justifies-grown added learnt assumed clause steps place (lit_at steps place) (step_at steps place).source (old place h)
+pub Justified-grown : (added learnt : List (List Lit)) (assumed clause : List Lit) (steps : List Step) → Justified (clause_lists added learnt assumed) steps → Justified (clause_lists added (learnt ++ clause ∷ []) assumed) steps
+Justified-grown added learnt assumed clause steps old = λ place h. Justifies-grown added learnt assumed clause steps place (lit_at steps place) (step_at steps place).reason (old place h)
 
 -- the weight falls with a push
 pub weight_pushed : (steps : List Step) (places new : List (Option ℕ)) (step : Step) → length new ≡ length places → IsTrail (steps ++ step ∷ []) new → trail_weight (steps ++ step ∷ []) new < trail_weight steps places
 weight_pushed steps places new step same trail =
-    let opens : Step → Bool = λ s. opens_level s.source in
+    let opens : Step → Bool = λ s. opens_level s.reason in
     let le = counted_le (steps ++ step ∷ []) new trail in
-    let long : length (levels steps) < length places = omega (arith, length_push steps step, length-map steps opens) in
-    let w = weight-push (length places) (levels steps) (opens step) long in
-    let e : levels (steps ++ step ∷ []) ≡ levels steps ++ opens step ∷ [] = map_push opens steps step in
-    subst (λ n. weight n (levels (steps ++ step ∷ [])) < trail_weight steps places) (sym same)
+    let long : length (level_marks steps) < length places = omega (arith, length_push steps step, length-map steps opens) in
+    let w = weight-push (length places) (level_marks steps) (opens step) long in
+    let e : level_marks (steps ++ step ∷ []) ≡ level_marks steps ++ opens step ∷ [] = map_push opens steps step in
+    subst (λ n. weight n (level_marks (steps ++ step ∷ [])) < trail_weight steps places) (sym same)
     (subst (λ l. weight (length places) l < trail_weight steps places) (sym e) w)
 
 -- and with a return to a step that opened a level
-pub weight_returned : (steps : List Step) (places new : List (Option ℕ)) (keep : ℕ) (step : Step) → length new ≡ length places → IsTrail steps places → keep < length steps → opens_level (step_at steps keep).source ≡ true → opens_level step.source ≡ false → trail_weight (take keep steps ++ step ∷ []) new < trail_weight steps places
+pub weight_returned : (steps : List Step) (places new : List (Option ℕ)) (keep : ℕ) (step : Step) → length new ≡ length places → IsTrail steps places → keep < length steps → opens_level (step_at steps keep).reason ≡ true → opens_level step.reason ≡ false → trail_weight (take keep steps ++ step ∷ []) new < trail_weight steps places
 weight_returned steps places new keep step same trail h opened forced =
-    let opens : Step → Bool = λ s. opens_level s.source in
+    let opens : Step → Bool = λ s. opens_level s.reason in
     let le = counted_le steps places trail in
     let n = length-map steps opens in
-    let at : get_or (levels steps) keep false ≡ true = get_or-map opens steps keep no_step false h ∙ opened in
-    let w = weight-return (length places) (levels steps) keep (omega arith) (omega arith) at in
-    let e : levels (take keep steps ++ step ∷ []) ≡ take keep (levels steps) ++ false ∷ [] =
+    let at : get_or (level_marks steps) keep false ≡ true = get_or-map opens steps keep no_step false h ∙ opened in
+    let w = weight-return (length places) (level_marks steps) keep (omega arith) (omega arith) at in
+    let e : level_marks (take keep steps ++ step ∷ []) ≡ take keep (level_marks steps) ++ false ∷ [] =
     map_push opens (take keep steps) step
     ∙ ap (λ l. l ++ opens step ∷ []) (sym (take-map opens keep steps))
-    ∙ ap (λ (b : Bool). take keep (levels steps) ++ b ∷ []) forced in
-    subst (λ m. weight m (levels (take keep steps ++ step ∷ [])) < trail_weight steps places) (sym same)
+    ∙ ap (λ (b : Bool). take keep (level_marks steps) ++ b ∷ []) forced in
+    subst (λ m. weight m (level_marks (take keep steps ++ step ∷ [])) < trail_weight steps places) (sym same)
     (subst (λ l. weight (length places) l < trail_weight steps places) (sym e) w)
 
 pub weight_falls : (steps grown : List Step) (places new : List (Option ℕ)) (step : Step) → grown ≡ steps ++ step ∷ [] → length new ≡ length places → IsTrail grown new → trail_weight grown new < trail_weight steps places
 weight_falls steps grown places new step e same trail =
     subst (λ l. trail_weight l new < trail_weight steps places) (sym e) (weight_pushed steps places new step same (subst (λ l. IsTrail l new) e trail))
 
-pub Justified-grows : (k : Known) (steps grown : List Step) (step : Step) → grown ≡ steps ++ step ∷ [] → Justified k steps → Justifies k steps (length steps) step.lit step.source → Justified k grown
+pub Justified-grows : (k : ClauseLists) (steps grown : List Step) (step : Step) → grown ≡ steps ++ step ∷ [] → Justified k steps → Justifies k steps (length steps) step.lit step.reason → Justified k grown
 Justified-grows k steps grown step e old here = subst (λ l. Justified k l) (sym e) (Justified-push k steps step old here)

@@ -2,11 +2,11 @@
 use Rattle.std.proofs.Common.{◌≡◌, ◌<◌, ◌+◌, ℕ, true, false, List, [], length, take, get_or, Contains, Option, Some, None, sym, ◌∙◌, subst, inl, inr}
 use Rattle.cnf.specs.declared.lit.Lit.{Lit}
 use Rattle.cnf.specs.Clauses.{opposite}
-use Rattle.sat_core.specs.declared.source.Source.{Source}
-use Rattle.sat_core.specs.declared.source.Source.TheVariants.{Added, Learnt, Assumed}
+use Rattle.sat_core.specs.declared.clause_ref.ClauseRef.{ClauseRef}
+use Rattle.sat_core.specs.declared.clause_ref.ClauseRef.TheVariants.{Added, Learnt, Assumed}
 use Rattle.sat_core.specs.declared.trail.Step.{Step}
-use Rattle.sat_core.specs.Search.{known_from, Names, clause_of, opens_level, MadeTrue, AllFalse, Forces, IsTrail, AllWithin}
-use Rattle.sat_core.specs.Found.{IsForced, NoneFalsified}
+use Rattle.sat_core.specs.Search.{clause_lists, HasClause, clause_of, opens_level, MadeTrue, AllFalse, Forces, IsTrail, AllWithin}
+use Rattle.sat_core.specs.Found.{IsForced, NothingFalsified}
 use Rattle.sat_core.proofs.Trails.{free_from_none, free_not_true, not_both}
 use Rattle.sat_core.proofs.Members.{more_cases, more_old, more_new, no_lits}
 
@@ -67,16 +67,16 @@ module _ (steps : List Step) (places : List (Option ℕ)) (trail : IsTrail steps
       free_not_true steps (opposite x) (free_from_none steps places trail (x.var) free) (all x (at_index xs i x h e))
 
 -- what the lists say together
-pub none_falsified : (added learnt : List (List Lit)) (assumed : List Lit) (steps : List Step) → ((p : ℕ) → p < length added → AllFalse steps (length steps) (get_or added p []) → ⊥) → ((p : ℕ) → p < length learnt → AllFalse steps (length steps) (get_or learnt p []) → ⊥) → NoneFalsified (known_from added learnt assumed) steps
+pub none_falsified : (added learnt : List (List Lit)) (assumed : List Lit) (steps : List Step) → ((p : ℕ) → p < length added → AllFalse steps (length steps) (get_or added p []) → ⊥) → ((p : ℕ) → p < length learnt → AllFalse steps (length steps) (get_or learnt p []) → ⊥) → NothingFalsified (clause_lists added learnt assumed) steps
 none_falsified added learnt assumed steps a l (Added p) f = a p f.named f.all
 none_falsified added learnt assumed steps a l (Learnt p) f = l p f.named f.all
 none_falsified added learnt assumed steps a l (Assumed p) f = let o : true ≡ false = f.kept in absurd (cc)
 
 -- the literals of a clause that was added or learnt are within the variables
-pub kept_within : (n : ℕ) (added learnt : List (List Lit)) (assumed : List Lit) (source : Source) → AllWithin n added → AllWithin n learnt → Names (known_from added learnt assumed) source → opens_level (Some source) ≡ false → (lit : Lit) → Contains (clause_of (known_from added learnt assumed) source) lit → lit.var < n
+pub kept_within : (n : ℕ) (added learnt : List (List Lit)) (assumed : List Lit) (reason : ClauseRef) → AllWithin n added → AllWithin n learnt → HasClause (clause_lists added learnt assumed) reason → opens_level (Some reason) ≡ false → (lit : Lit) → Contains (clause_of (clause_lists added learnt assumed) reason) lit → lit.var < n
 kept_within n added learnt assumed (Added p) a l named kept lit has = a p named lit has
 kept_within n added learnt assumed (Learnt p) a l named kept lit has = l p named lit has
 kept_within n added learnt assumed (Assumed p) a l named kept lit has = absurd (cc)
 
-pub forced_within : (n : ℕ) (added learnt : List (List Lit)) (assumed : List Lit) (steps : List Step) (places : List (Option ℕ)) (lit : Lit) (source : Source) → AllWithin n added → AllWithin n learnt → IsForced (known_from added learnt assumed) steps places lit source → lit.var < n
-forced_within n added learnt assumed steps places lit source a l f = kept_within n added learnt assumed source a l f.named f.kept lit f.forces.has
+pub forced_within : (n : ℕ) (added learnt : List (List Lit)) (assumed : List Lit) (steps : List Step) (places : List (Option ℕ)) (lit : Lit) (reason : ClauseRef) → AllWithin n added → AllWithin n learnt → IsForced (clause_lists added learnt assumed) steps places lit reason → lit.var < n
+forced_within n added learnt assumed steps places lit reason a l f = kept_within n added learnt assumed reason a l f.named f.kept lit f.forces.has

@@ -1,4 +1,4 @@
--- The trail: what a push and a cut do, and that no literal is both true and false.
+-- The trail: what a push and a backtrack do, and that no literal is both true and false.
 use Rattle.std.proofs.Common.{◌≡◌, ◌≢◌, ◌<◌, ◌≤◌, ℕ, zero, suc, Bool, true, false, not, List, [], ◌∷◌, ◌++◌, length, take, set, replicate, get_or, Option, Some, None, refl, sym, ap, ◌∙◌, inl, inr, arith, zero-add}
 use Rattle.std.proofs.lemmas.List.{get_or_append_left, get_or_push, length_push, get_or-take, get_or-set_same, get_or-set_other, get_or_past, length-set, get_or_read, length-replicate}
 use Rattle.std.proofs.lemmas.Bool.{cases_lt, cases_eq}
@@ -6,7 +6,7 @@ use mathlib.Core.Bool.{beq}
 use Rattle.cnf.specs.declared.lit.Lit.{Lit}
 use Rattle.cnf.specs.Clauses.{opposite}
 use Rattle.sat_core.specs.declared.trail.Step.{Step}
-use Rattle.sat_core.specs.Search.{step_at, lit_at, no_step, MadeTrue, IsFree, IsTrail, free_count, ValueIs}
+use Rattle.sat_core.specs.Search.{step_at, lit_at, no_step, MadeTrue, IsUnassigned, IsTrail, unassigned_count, ValueIs}
 
 abbrev pub lit_of : ℕ → Bool → Lit
 lit_of v s = record { var = v; positive = s }
@@ -81,7 +81,7 @@ module _ (steps : List Step) (places : List (Option ℕ)) (trail : IsTrail steps
   MadeTrue-within lit t = rw (← ap (λ (l : Lit). l.var) t.2) (var_within t.0 t.1)
 
   -- a variable without a place is free
-  pub free_from_none : (var : ℕ) → get_or places var None ≡ None → IsFree steps var
+  pub free_from_none : (var : ℕ) → get_or places var None ≡ None → IsUnassigned steps var
   free_from_none var none p h e =
       let at : get_or places var None ≡ Some p = rw (← e) (trail.placed p h) in
       absurd (cc)
@@ -90,23 +90,23 @@ module _ (steps : List Step) (places : List (Option ℕ)) (trail : IsTrail steps
   counted_le = omega (arith, trail.counted)
 
 -- a free variable's literals are neither true nor false
-pub free_not_true : (steps : List Step) (lit : Lit) → IsFree steps lit.var → MadeTrue steps (length steps) lit → ⊥
+pub free_not_true : (steps : List Step) (lit : Lit) → IsUnassigned steps lit.var → MadeTrue steps (length steps) lit → ⊥
 free_not_true steps lit free t = free t.0 t.1 (ap (λ (l : Lit). l.var) t.2)
 
 -- counts
-pub free_count-fill : (places : List (Option ℕ)) (v p : ℕ) → v < length places → get_or places v None ≡ None → suc (free_count (set places v (Some p))) ≡ free_count places
-free_count-fill [] v p h e = absurd (omega arith)
-free_count-fill (None ∷ places) zero p h e = refl
-free_count-fill (Some q ∷ places) zero p h e = absurd (cc)
-free_count-fill (None ∷ places) (suc v) p h e = ap suc (free_count-fill places v p (omega arith) e)
-free_count-fill (Some q ∷ places) (suc v) p h e = free_count-fill places v p (omega arith) e
+pub unassigned_count-fill : (places : List (Option ℕ)) (v p : ℕ) → v < length places → get_or places v None ≡ None → suc (unassigned_count (set places v (Some p))) ≡ unassigned_count places
+unassigned_count-fill [] v p h e = absurd (omega arith)
+unassigned_count-fill (None ∷ places) zero p h e = refl
+unassigned_count-fill (Some q ∷ places) zero p h e = absurd (cc)
+unassigned_count-fill (None ∷ places) (suc v) p h e = ap suc (unassigned_count-fill places v p (omega arith) e)
+unassigned_count-fill (Some q ∷ places) (suc v) p h e = unassigned_count-fill places v p (omega arith) e
 
-pub free_count-clear : (places : List (Option ℕ)) (v p : ℕ) → v < length places → get_or places v None ≡ Some p → free_count (set places v None) ≡ suc (free_count places)
-free_count-clear [] v p h e = absurd (omega arith)
-free_count-clear (None ∷ places) zero p h e = absurd (cc)
-free_count-clear (Some q ∷ places) zero p h e = refl
-free_count-clear (None ∷ places) (suc v) p h e = ap suc (free_count-clear places v p (omega arith) e)
-free_count-clear (Some q ∷ places) (suc v) p h e = free_count-clear places v p (omega arith) e
+pub unassigned_count-clear : (places : List (Option ℕ)) (v p : ℕ) → v < length places → get_or places v None ≡ Some p → unassigned_count (set places v None) ≡ suc (unassigned_count places)
+unassigned_count-clear [] v p h e = absurd (omega arith)
+unassigned_count-clear (None ∷ places) zero p h e = absurd (cc)
+unassigned_count-clear (Some q ∷ places) zero p h e = refl
+unassigned_count-clear (None ∷ places) (suc v) p h e = ap suc (unassigned_count-clear places v p (omega arith) e)
+unassigned_count-clear (Some q ∷ places) (suc v) p h e = unassigned_count-clear places v p (omega arith) e
 
 -- a push at a free variable keeps the places right
 pub IsTrail-push : (steps : List Step) (places : List (Option ℕ)) (step : Step) → IsTrail steps places → step.lit.var < length places → get_or places (step.lit.var) None ≡ None → IsTrail (steps ++ step ∷ []) (set places (step.lit.var) (Some (length steps)))
@@ -138,7 +138,7 @@ IsTrail-push steps places step trail within none =
             ∙ get_or-set_same places v (Some n) None within
             ∙ ap Some (sym at))
       ];
-      counted = omega (arith, grown, trail.counted, free_count-fill places v n within none, length-set places v (Some n));
+      counted = omega (arith, grown, trail.counted, unassigned_count-fill places v n within none, length-set places v (Some n));
     }
 
 -- taking back the last step keeps them right
@@ -168,7 +168,7 @@ IsTrail-pop steps places step trail =
           let old : get_or places ((lit_at steps place).var) None ≡ Some place = ap (λ w. get_or places w None) (sym same) ∙ trail.placed place (omega arith) in
           let other : (lit_at steps place).var ≢ v = λ e. let clash : Some n ≡ Some place = sym here ∙ ap (λ w. get_or places w None) (sym e) ∙ old in let at : n ≡ place = some_same n place clash in omega arith in
           get_or-set_other places v _ None None other ∙ old;
-      counted = omega (arith, grown, trail.counted, free_count-clear places v n within here, length-set places v None);
+      counted = omega (arith, grown, trail.counted, unassigned_count-clear places v n within here, length-set places v None);
     }
 
 -- what a step's sign says of a literal of its variable
@@ -184,9 +184,9 @@ value_at steps places lit p s trail at read =
     let same : s ≡ step_at steps p = get_or_read steps p s on.0 read no_step in
     value_sign steps places lit p s.lit.positive lit.positive on.0 on.1 (ap (λ (t : Step). t.lit.positive) (sym same)) refl
 
-free_count-all : (n : ℕ) → free_count (replicate n None) ≡ n
-free_count-all zero = refl
-free_count-all (suc n) = ap suc (free_count-all n)
+unassigned_count-all : (n : ℕ) → unassigned_count (replicate n None) ≡ n
+unassigned_count-all zero = refl
+unassigned_count-all (suc n) = ap suc (unassigned_count-all n)
 
 no_places : (n v p : ℕ) → get_or (replicate n None) v None ≡ Some p → ⊥
 no_places zero v p e = cc
@@ -197,7 +197,7 @@ pub IsTrail-empty : (n : ℕ) → IsTrail [] (replicate n None)
 IsTrail-empty n = record {
   stands = λ var place e. absurd (no_places n var place e);
   placed = λ place h. absurd (omega arith);
-  counted = zero-add _ ∙ free_count-all n ∙ sym (length-replicate n _);
+  counted = zero-add _ ∙ unassigned_count-all n ∙ sym (length-replicate n _);
 }
 
 -- the sign of the step at a variable's place is the sign of each of its literals that was made true

@@ -1,6 +1,6 @@
-pub mod Choices
+pub mod Decisions
 pub mod Found
-pub mod Lessons
+pub mod Learning
 pub mod Numbering
 pub mod Outcomes
 pub mod Search

@@ -1,25 +1,27 @@
+//! Derivations in the making: `Resolvent` keeps the literals that the resolutions so far have reached.
+
 ghost use Rattle.std.specs.Prelude.{◌≡◌, ◌↔◌, ◌⊎◌, ◌∷◌, ◌++◌, [], IsTrue, IfOk, OnOk, Contains};
 ghost use Rattle.cnf.specs.Clauses.{opposite};
 ghost use Rattle.clause_log.specs.Derivations.{Resolves};
-ghost use Rattle.sat_core.specs.Search.{known_of, Names, clause_of, IsWithout, IsJoined};
+ghost use Rattle.sat_core.specs.Search.{lists_of, HasClause, clause_of, IsWithout, IsJoined};
 
-use crate::source::{Facts, Source, lits};
+use crate::clause_ref::{ClauseRef, Database, lits};
 use cnf::Lit;
 use port_types::NoMemory;
 use std::alloc::Global;
 
 /// One resolution: on a variable, with a clause.
 #[derive(Clone, Copy, Debug)]
-pub struct Link {
+pub struct Resolution {
     pub var: usize,
-    pub source: Source,
+    pub reason: ClauseRef,
 }
 
 /// How a clause was derived: from a first clause, by resolutions in order.
 #[derive(Debug, Drop)]
 pub struct Derivation {
-    pub first: Source,
-    pub rest: Vec<Link>,
+    pub first: ClauseRef,
+    pub rest: Vec<Resolution>,
 }
 
 /// A derivation in the making, with the literals that it has reached.
@@ -30,39 +32,48 @@ pub struct Resolvent {
 }
 
 impl Resolvent {
-    /// The clause that a source names, with no resolution yet.
-    pub fn new(alloc: Global, facts: Facts<'_>, source: Source) -> Result<Resolvent, NoMemory>
-        requires { Names (known_of facts) source }
-        ensures lits { IfOk result (λ r. r.lits.items ≡ clause_of (known_of facts.entry) source) }
-        ensures first { IfOk result (λ r. r.derivation.first ≡ source) }
+    /// The clause that a reason names, with no resolution yet.
+    pub fn new(
+        alloc: Global,
+        database: Database<'_>,
+        reason: ClauseRef,
+    ) -> Result<Resolvent, NoMemory>
+        requires { HasClause (lists_of database) reason }
+        ensures lits { IfOk result (λ r. r.lits.items ≡ clause_of (lists_of database.entry) reason) }
+        ensures first { IfOk result (λ r. r.derivation.first ≡ reason) }
         ensures rest { IfOk result (λ r. r.derivation.rest.items ≡ []) }
     {
         Ok(Resolvent {
-            lits: Vec::from_slice(alloc, lits(facts, source))?,
+            lits: Vec::from_slice(alloc, lits(database, reason))?,
             derivation: Derivation {
-                first: source,
+                first: reason,
                 rest: Vec::new(alloc),
             },
         })
     }
 
     /// Resolves with a clause that has `lit`, where its opposite is among the literals reached.
-    pub fn resolve(&mut self, facts: Facts<'_>, lit: Lit, source: Source) -> Result<(), NoMemory>
-        requires named { Names (known_of facts) source }
+    pub fn resolve(
+        &mut self,
+        database: Database<'_>,
+        lit: Lit,
+        reason: ClauseRef,
+    ) -> Result<(), NoMemory>
+        requires named { HasClause (lists_of database) reason }
         requires on_left { Contains self.old.lits.items (opposite lit) }
-        requires on_right { Contains (clause_of (known_of facts) source) lit }
-        ensures lits { OnOk result (Resolves self.old.lits.items (clause_of (known_of facts.entry) source) (opposite lit) self.new.lits.items) }
+        requires on_right { Contains (clause_of (lists_of database) reason) lit }
+        ensures lits { OnOk result (Resolves self.old.lits.items (clause_of (lists_of database.entry) reason) (opposite lit) self.new.lits.items) }
         ensures first { self.new.derivation.first ≡ self.old.derivation.first }
-        ensures rest { OnOk result (self.new.derivation.rest.items ≡ self.old.derivation.rest.items ++ record { var = lit.var; source = source } ∷ []) }
+        ensures rest { OnOk result (self.new.derivation.rest.items ≡ self.old.derivation.rest.items ++ record { var = lit.var; reason = reason } ∷ []) }
     {
-        let mut joined = without(*self.lits.allocator(), self.lits.as_slice(), lit.negated())?;
-        join(&mut joined, lits(facts, source), lit)?;
-        let link = Link {
+        let mut resolvent = without(*self.lits.allocator(), self.lits.as_slice(), lit.negated())?;
+        join(&mut resolvent, lits(database, reason), lit)?;
+        let resolution = Resolution {
             var: lit.var,
-            source,
+            reason,
         };
-        self.derivation.rest.push(link)?;
-        self.lits = joined;
+        self.derivation.rest.push(resolution)?;
+        self.lits = resolvent;
         Ok(())
     }
 }

@@ -2,12 +2,13 @@
 //!
 //! The search keeps a trail: the literals made true, in order, each with the clause that forced it.
 //! Where a clause has all its literals false, a clause is learnt by resolution back to the first
-//! unique implication point, and the trail is cut so that the learnt clause forces a literal.
+//! unique implication point, and the trail is cut back so that the learnt clause forces a literal.
 #![tactic(auto)]
 
 mod analyse;
 mod chain;
 mod choose;
+mod clause_ref;
 mod log;
 mod opposites;
 mod outcome;
@@ -15,7 +16,6 @@ mod propagate;
 mod scan;
 mod search;
 mod solver;
-mod source;
 #[cfg(test)]
 mod tests;
 mod trail;

@@ -1,38 +1,40 @@
-ghost use Rattle.std.specs.Prelude.{◌≡◌, ◌<◌, ◌≤◌, ◌+◌, ℕ, true, [], length, map, slice_index_or, IfOk};
-ghost use Rattle.sat_core.specs.declared.chain.Link.{Link};
-ghost use Rattle.clause_log.specs.Derivations.{Derives};
-ghost use Rattle.sat_core.specs.Search.{known_from, Derived};
-ghost use Rattle.sat_core.specs.Choices.{AreDerived};
-ghost use Rattle.sat_core.specs.Numbering.{number_of, pivot_of, HasNumber, AllHaveNumbers, IsBelow, AllBelow, marked, IsMarked, AllNeeded, AreNeeded, AreBelow, IsNumbered, clauses_of};
+//! Logs: `render` cuts the derivations down to those that the last one needs, and numbers them as chains.
 
-use crate::chain::{Derivation, Link};
-use crate::source::Source;
+ghost use Rattle.std.specs.Prelude.{◌≡◌, ◌<◌, ◌≤◌, ◌+◌, ℕ, true, [], length, map, slice_index_or, IfOk};
+ghost use Rattle.sat_core.specs.declared.chain.Resolution.{Resolution};
+ghost use Rattle.clause_log.specs.Derivations.{Derives};
+ghost use Rattle.sat_core.specs.Search.{clause_lists, IsDerivation};
+ghost use Rattle.sat_core.specs.Decisions.{AreDerivations};
+ghost use Rattle.sat_core.specs.Numbering.{log_number, log_pivot, HasNumber, AllHaveNumbers, IsBelow, AllBelow, marks_with, MarksMore, AllNeeded, AreNeeded, AreBelow, IsNumbered, clauses_with_units};
+
+use crate::chain::{Derivation, Resolution};
+use crate::clause_ref::ClauseRef;
 use clause_log::{Chain, ChainLog, Pivot, Pivots};
 use cnf::{Clause, Lit};
 use port_types::NoMemory;
 use std::alloc::Global;
 
-/// Marks the learnt clause that a source names.
-fn mark_source(needed: &mut [bool], source: Source)
-    requires { IsBelow (length needed.old) source }
-    ensures { needed.new ≡ marked needed.old source }
+/// Marks the learnt clause that a reason names.
+fn mark_source(needed: &mut [bool], reason: ClauseRef)
+    requires { IsBelow (length needed.old) reason }
+    ensures { needed.new ≡ marks_with needed.old reason }
 {
-    match source {
-        Source::Learnt(place) => needed[place] = true,
-        Source::Added(_) => {}
-        Source::Assumed(_) => {}
+    match reason {
+        ClauseRef::Learnt(place) => needed[place] = true,
+        ClauseRef::Added(_) => {}
+        ClauseRef::Assumed(_) => {}
     }
 }
 
 /// Marks the learnt clauses that a derivation names.
 fn mark(needed: &mut [bool], derivation: &Derivation)
     requires { AllBelow (length needed.old) derivation.now.first derivation.now.rest.items }
-    ensures { IsMarked needed.old needed.new derivation.now.first derivation.now.rest.items }
+    ensures { MarksMore needed.old needed.new derivation.now.first derivation.now.rest.items }
 {
     mark_source(needed, derivation.first);
     for place in 0..derivation.rest.len() {
-        let link = derivation.rest[place];
-        mark_source(needed, link.source);
+        let resolution = derivation.rest[place];
+        mark_source(needed, resolution.reason);
     }
 }
 
@@ -74,33 +76,33 @@ fn close(needed: &mut [bool], derivations: &[Derivation], last: &Derivation)
     }
 }
 
-/// The number that a log gives to the clause that a source names.
-fn number(source: Source, added: usize, numbers: &[usize]) -> usize
-    requires { HasNumber added numbers.now source }
-    ensures { result ≡ number_of added numbers.now source }
+/// The number that a log gives to the clause that a reason names.
+fn number(reason: ClauseRef, added: usize, numbers: &[usize]) -> usize
+    requires { HasNumber added numbers.now reason }
+    ensures { result ≡ log_number added numbers.now reason }
 {
-    match source {
-        Source::Added(place) => place,
-        Source::Assumed(place) => added + place,
-        Source::Learnt(place) => numbers[place],
+    match reason {
+        ClauseRef::Added(place) => place,
+        ClauseRef::Assumed(place) => added + place,
+        ClauseRef::Learnt(place) => numbers[place],
     }
 }
 
 /// The steps of a chain.
 fn pivots(
     alloc: Global,
-    links: &[Link],
+    resolutions: &[Resolution],
     added: usize,
     numbers: &[usize],
 ) -> Result<Pivots, NoMemory>
-    requires { (place : ℕ) → (none : Link) → place < length links.now → HasNumber added numbers.now (slice_index_or links.now place none).source }
-    ensures { IfOk result (λ pivots. pivots ≡ map (pivot_of added numbers.now) links.now) }
+    requires { (place : ℕ) → (none : Resolution) → place < length resolutions.now → HasNumber added numbers.now (slice_index_or resolutions.now place none).reason }
+    ensures { IfOk result (λ pivots. pivots ≡ map (log_pivot added numbers.now) resolutions.now) }
 {
     let mut pivots = Pivots::new(alloc);
-    for link in links {
+    for resolution in resolutions {
         pivots.push(Pivot {
-            var: link.var,
-            clause: number(link.source, added, numbers),
+            var: resolution.var,
+            clause: number(resolution.reason, added, numbers),
         })?;
     }
     Ok(pivots)
@@ -116,8 +118,8 @@ pub fn chain(
 ) -> Result<Chain, NoMemory>
     requires { AllHaveNumbers added numbers.now derivation.now.first derivation.now.rest.items }
     ensures clause { IfOk result (λ chain. chain.clause ≡ clause.now) }
-    ensures first { IfOk result (λ chain. chain.first ≡ number_of added numbers.now derivation.now.first) }
-    ensures rest { IfOk result (λ chain. chain.rest ≡ map (pivot_of added numbers.now) derivation.now.rest.items) }
+    ensures first { IfOk result (λ chain. chain.first ≡ log_number added numbers.now derivation.now.first) }
+    ensures rest { IfOk result (λ chain. chain.rest ≡ map (log_pivot added numbers.now) derivation.now.rest.items) }
 {
     Ok(Chain {
         clause: Clause::from_slice(alloc, clause)?,
@@ -128,7 +130,7 @@ pub fn chain(
 
 /// Chains of learnt clauses, and the numbers of these.
 #[derive(Debug, Drop)]
-struct Numbered {
+struct NeededChains {
     log: ChainLog,
     numbers: Vec<usize>,
 }
@@ -141,8 +143,8 @@ fn chains(
     learnt: &[Clause],
     derivations: &[Derivation],
     needed: &[bool],
-) -> Result<Numbered, NoMemory>
-    requires derived { AreDerived added.now learnt.now derivations.now }
+) -> Result<NeededChains, NoMemory>
+    requires derived { AreDerivations added.now learnt.now derivations.now }
     requires count { length needed.now ≡ length learnt.now }
     requires needed { AreNeeded needed.now derivations.now }
     ensures { IfOk result (λ n. IsNumbered added.now learnt.now assumed.now needed.now (length learnt.now) n.numbers.items n.log) }
@@ -163,7 +165,7 @@ fn chains(
         }
         numbers.push(number)?;
     }
-    Ok(Numbered { log, numbers })
+    Ok(NeededChains { log, numbers })
 }
 
 /// The log of the last derivation, of the empty clause: the chains of the learnt clauses that it needs,
@@ -176,12 +178,12 @@ pub fn render(
     derivations: &[Derivation],
     last: &Derivation,
 ) -> Result<ChainLog, NoMemory>
-    requires derived { AreDerived added.now learnt.now derivations.now }
-    requires last { Derived (known_from added.now learnt.now assumed.now) last.now.first last.now.rest.items [] }
-    ensures { IfOk result (Derives (clauses_of added.now assumed.now)) }
+    requires derived { AreDerivations added.now learnt.now derivations.now }
+    requires last { IsDerivation (clause_lists added.now learnt.now assumed.now) last.now.first last.now.rest.items [] }
+    ensures { IfOk result (Derives (clauses_with_units added.now assumed.now)) }
 {
     let needed = needed(alloc, derivations, last)?;
-    let Numbered { mut log, numbers } = chains(
+    let NeededChains { mut log, numbers } = chains(
         alloc,
         added,
         assumed,

@@ -1,20 +1,22 @@
+//! Opposite assumptions: `opposites` finds two, and `units_log` is the log that resolves them.
+
 ghost use Rattle.std.specs.Prelude.{◌≡◌, ◌<◌, ◌+◌, ℕ, List, [], ◌∷◌, length, IfOk, MatchOption, Contains, slice_index_or};
 ghost use Rattle.cnf.specs.declared.lit.Lit.{Lit};
 ghost use Rattle.cnf.specs.Clauses.{opposite};
 ghost use Rattle.clause_log.specs.Derivations.{Derives};
-ghost use Rattle.sat_core.specs.Numbering.{clauses_of};
+ghost use Rattle.sat_core.specs.Numbering.{clauses_with_units};
 ghost use Rattle.sat_core.specs.Outcomes.{HasOpposites, AreOpposite, IsOfUnits, StandsAt};
 
-use crate::chain::{Derivation, Link};
+use crate::chain::{Derivation, Resolution};
+use crate::clause_ref::ClauseRef;
 use crate::log::chain;
-use crate::source::Source;
 use clause_log::ChainLog;
 use cnf::{Clause, Lit};
 use port_types::NoMemory;
 use std::alloc::Global;
 
 /// The place of a literal in a list.
-fn place_of(lits: &[Lit], lit: Lit) -> Option<usize>
+fn index_of(lits: &[Lit], lit: Lit) -> Option<usize>
     ensures { MatchOption result (Contains lits.now lit → ⊥) (λ place. StandsAt lits.now place lit) }
 {
     lits.iter().position(|other| other.same(lit))
@@ -25,7 +27,7 @@ pub fn opposites(lits: &[Lit]) -> Option<(usize, usize)>
     ensures { MatchOption result (HasOpposites lits.now → ⊥) (λ places. AreOpposite lits.now places.0 places.1) }
 {
     for (place, lit) in lits.iter().enumerate() {
-        if let Some(other) = place_of(lits, lit.negated()) {
+        if let Some(other) = index_of(lits, lit.negated()) {
             return Some((place, other));
         }
     }
@@ -41,16 +43,16 @@ pub fn units_log(
     other: usize,
 ) -> Result<ChainLog, NoMemory>
     requires { AreOpposite assumed.now place other }
-    ensures derives { IfOk result (Derives (clauses_of added.now assumed.now)) }
+    ensures derives { IfOk result (Derives (clauses_with_units added.now assumed.now)) }
     ensures units { IfOk result (IsOfUnits (length added.now) assumed.now) }
 {
     let mut rest = Vec::new(alloc);
-    rest.push(Link {
+    rest.push(Resolution {
         var: assumed[place].var,
-        source: Source::Assumed(other),
+        reason: ClauseRef::Assumed(other),
     })?;
     let derivation = Derivation {
-        first: Source::Assumed(place),
+        first: ClauseRef::Assumed(place),
         rest,
     };
     let end = chain(alloc, &[], &derivation, added.len(), &[])?;

@@ -1,3 +1,5 @@
+//! What `solve` answers.
+
 use clause_log::ChainLog;
 use cnf::Model01;
 

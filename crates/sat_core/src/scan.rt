@@ -1,9 +1,11 @@
+//! What clauses say under the literals made true: `scan` finds one that is falsified or forces a literal.
+
 ghost use Rattle.std.specs.Prelude.{◌≡◌, ◌<◌, ℕ, length, Contains};
-ghost use Rattle.sat_core.specs.Found.{Says, Finds, Meets};
-ghost use Rattle.sat_core.specs.Search.{IsTrail, AllWithin, known_of};
+ghost use Rattle.sat_core.specs.Found.{IsStatusOf, Finds, IsFoundBy};
+ghost use Rattle.sat_core.specs.Search.{IsTrail, AllWithin, lists_of};
 ghost use Rattle.cnf.specs.declared.lit.Lit.{Lit};
 
-use crate::source::{Facts, Source};
+use crate::clause_ref::{ClauseRef, Database};
 use crate::trail::Trail;
 use cnf::{Clause, Lit};
 
@@ -26,11 +28,11 @@ pub enum Place {
     QuietAll,
 }
 
-/// What the clauses added and learnt say: the first that says something, by its source.
+/// What the clauses added and learnt say: the first that says something, by its reason.
 #[derive(Clone, Copy, Debug)]
 pub enum Found {
-    FalsifiedBy(Source),
-    ForcingBy(Lit, Source),
+    FalsifiedBy(ClauseRef),
+    ForcingBy(Lit, ClauseRef),
     QuietEverywhere,
 }
 
@@ -38,7 +40,7 @@ pub enum Found {
 pub fn examine(clause: &[Lit], trail: &Trail) -> Status
     requires trail { IsTrail trail.now.steps.items trail.now.places.items }
     requires vars { (lit : Lit) → Contains clause.now lit → lit.var < length trail.now.places.items }
-    ensures { Says trail.now.steps.items trail.now.places.items clause.now result }
+    ensures { IsStatusOf trail.now.steps.items trail.now.places.items clause.now result }
 {
     let mut open = None;
     for lit in clause {
@@ -78,18 +80,18 @@ pub fn first(clauses: &[Clause], trail: &Trail) -> Place
 }
 
 /// A clause, added or learnt, that is falsified or forces a literal.
-pub fn scan(facts: Facts<'_>, trail: &Trail) -> Found
+pub fn scan(database: Database<'_>, trail: &Trail) -> Found
     requires trail { IsTrail trail.now.steps.items trail.now.places.items }
-    requires added { AllWithin (length trail.now.places.items) facts.added.now }
-    requires learnt { AllWithin (length trail.now.places.items) facts.learnt.now }
-    ensures { Meets (known_of facts.entry) trail.now.steps.items trail.now.places.items result }
+    requires added { AllWithin (length trail.now.places.items) database.added.now }
+    requires learnt { AllWithin (length trail.now.places.items) database.learnt.now }
+    ensures { IsFoundBy (lists_of database.entry) trail.now.steps.items trail.now.places.items result }
 {
-    match first(facts.added, trail) {
-        Place::FalsifiedAt(place) => Found::FalsifiedBy(Source::Added(place)),
-        Place::ForcingAt(lit, place) => Found::ForcingBy(lit, Source::Added(place)),
-        Place::QuietAll => match first(facts.learnt, trail) {
-            Place::FalsifiedAt(place) => Found::FalsifiedBy(Source::Learnt(place)),
-            Place::ForcingAt(lit, place) => Found::ForcingBy(lit, Source::Learnt(place)),
+    match first(database.added, trail) {
+        Place::FalsifiedAt(place) => Found::FalsifiedBy(ClauseRef::Added(place)),
+        Place::ForcingAt(lit, place) => Found::ForcingBy(lit, ClauseRef::Added(place)),
+        Place::QuietAll => match first(database.learnt, trail) {
+            Place::FalsifiedAt(place) => Found::FalsifiedBy(ClauseRef::Learnt(place)),
+            Place::ForcingAt(lit, place) => Found::ForcingBy(lit, ClauseRef::Learnt(place)),
             Place::QuietAll => Found::QuietEverywhere,
         },
     }

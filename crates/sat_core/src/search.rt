@@ -1,14 +1,17 @@
+//! The search: `search` propagates, learns and decides until it has a model or the empty clause. It may touch the
+//! trail, the learnt clauses and the phases.
+
 ghost use Rattle.std.specs.Prelude.{◌≡◌, ◌<◌, ◌≤◌, ◌∷◌, ◌++◌, ℕ, [], true, false, length, map, IfOk, OnOk, OnErr, MatchOption};
 ghost use Rattle.cnf.specs.Clauses.{IsModel};
-ghost use Rattle.sat_core.specs.Search.{IsTrail, AllWithin, Justified, known_from, known_of, unit_clause, Derived, trail_weight, AssumptionsTrue};
-ghost use Rattle.sat_core.specs.Found.{IsFalsified, NoneFalsified};
-ghost use Rattle.sat_core.specs.Choices.{IsState, AreDerived, Answers, AllPlaced};
+ghost use Rattle.sat_core.specs.Search.{IsTrail, AllWithin, Justified, clause_lists, lists_of, unit_clause, IsDerivation, trail_weight, AssumptionsTrue};
+ghost use Rattle.sat_core.specs.Found.{IsFalsified, NothingFalsified};
+ghost use Rattle.sat_core.specs.Decisions.{IsSearchState, AreDerivations, IsAnswer, AllAssigned};
 
-use crate::analyse::{Lesson, analyse, refute};
+use crate::analyse::{LearntClause, analyse, refute};
 use crate::chain::Derivation;
 use crate::choose::{Choice, choose};
+use crate::clause_ref::{ClauseRef, Database};
 use crate::propagate::propagate;
-use crate::source::{Facts, Source};
 use crate::trail::{Step, Trail};
 use cnf::{Clause, Lit, Model01};
 use port_types::NoMemory;
@@ -16,17 +19,17 @@ use std::alloc::Global;
 
 /// Clauses that were learnt, each with its derivation.
 #[derive(Debug, Drop)]
-pub struct Lessons {
+pub struct LearntClauses {
     pub clauses: Vec<Clause>,
     pub derivations: Vec<Derivation>,
 }
 
-impl Lessons {
-    pub fn new(alloc: Global) -> Lessons
+impl LearntClauses {
+    pub fn new(alloc: Global) -> LearntClauses
         ensures clauses { result.clauses.items ≡ [] }
         ensures derivations { result.derivations.items ≡ [] }
     {
-        Lessons {
+        LearntClauses {
             clauses: Vec::new(alloc),
             derivations: Vec::new(alloc),
         }
@@ -59,14 +62,14 @@ pub enum Answer {
 }
 
 /// The values of the variables.
-fn model(alloc: Global, facts: Facts<'_>, trail: &Trail) -> Result<Model01, NoMemory>
+fn model(alloc: Global, database: Database<'_>, trail: &Trail) -> Result<Model01, NoMemory>
     requires trail { IsTrail trail.now.steps.items trail.now.places.items }
-    requires placed { AllPlaced trail.now.places.items }
-    requires quiet { NoneFalsified (known_of facts) trail.now.steps.items }
-    requires assumed { AssumptionsTrue (known_of facts) trail.now.steps.items (length trail.now.steps.items) }
-    requires within { AllWithin (length trail.now.places.items) facts.added.now }
-    requires assumed_within { AllWithin (length trail.now.places.items) (map unit_clause facts.assumed.now) }
-    ensures { IfOk result (IsModel (length trail.now.places.items) (facts.entry.added.now ++ map unit_clause facts.entry.assumed.now)) }
+    requires placed { AllAssigned trail.now.places.items }
+    requires quiet { NothingFalsified (lists_of database) trail.now.steps.items }
+    requires assumed { AssumptionsTrue (lists_of database) trail.now.steps.items (length trail.now.steps.items) }
+    requires within { AllWithin (length trail.now.places.items) database.added.now }
+    requires assumed_within { AllWithin (length trail.now.places.items) (map unit_clause database.assumed.now) }
+    ensures { IfOk result (IsModel (length trail.now.places.items) (database.entry.added.now ++ map unit_clause database.entry.assumed.now)) }
 {
     let mut values = Vec::new(alloc);
     for var in 0..trail.vars() {
@@ -81,44 +84,44 @@ fn model(alloc: Global, facts: Facts<'_>, trail: &Trail) -> Result<Model01, NoMe
 fn learn<'a>(
     alloc: Global,
     added: &'a [Clause],
-    lessons: &mut Lessons,
+    learnt: &mut LearntClauses,
     assumed: &'a [Lit],
     trail: &mut Trail,
-    saved: &mut [bool],
-    source: Source,
+    phases: &mut [bool],
+    reason: ClauseRef,
 ) -> Result<Option<Derivation>, NoMemory>
-    requires state { IsState (length saved.old) added.now lessons.old.clauses.items assumed.now trail.old.steps.items trail.old.places.items }
-    requires derived { AreDerived added.now lessons.old.clauses.items lessons.old.derivations.items }
-    requires falsified { IsFalsified (known_from added.now lessons.old.clauses.items assumed.now) trail.old.steps.items source }
-    ensures learnt { AllWithin (length saved.old) lessons.new.clauses.items }
-    ensures derived { AreDerived added.now lessons.new.clauses.items lessons.new.derivations.items }
+    requires state { IsSearchState (length phases.old) added.now learnt.old.clauses.items assumed.now trail.old.steps.items trail.old.places.items }
+    requires derived { AreDerivations added.now learnt.old.clauses.items learnt.old.derivations.items }
+    requires falsified { IsFalsified (clause_lists added.now learnt.old.clauses.items assumed.now) trail.old.steps.items reason }
+    ensures learnt { AllWithin (length phases.old) learnt.new.clauses.items }
+    ensures derived { AreDerivations added.now learnt.new.clauses.items learnt.new.derivations.items }
     ensures done { IfOk result (λ found. MatchOption found
-        (IsState (length saved.old) added.now lessons.new.clauses.items assumed.now trail.new.steps.items trail.new.places.items
+        (IsSearchState (length phases.old) added.now learnt.new.clauses.items assumed.now trail.new.steps.items trail.new.places.items
         × (trail_weight trail.new.steps.items trail.new.places.items < trail_weight trail.old.steps.items trail.old.places.items))
-        (λ derivation. Derived (known_from added.now lessons.new.clauses.items assumed.now) derivation.first derivation.rest.items [])) }
+        (λ derivation. IsDerivation (clause_lists added.now learnt.new.clauses.items assumed.now) derivation.first derivation.rest.items [])) }
 {
-    let facts = Facts {
+    let database = Database {
         added,
-        learnt: lessons.clauses.as_slice(),
+        learnt: learnt.clauses.as_slice(),
         assumed,
     };
-    let Lesson {
+    let LearntClause {
         lits,
         derivation,
-        turn,
-    } = analyse(alloc, facts, trail, source)?;
-    match turn {
+        backjump,
+    } = analyse(alloc, database, trail, reason)?;
+    match backjump {
         None => Ok(Some(derivation)),
-        Some(turn) => {
-            let place = lessons.clauses.len();
-            lessons.keep(lits.as_slice(), derivation)?;
-            trail.cut(turn.keep);
+        Some(backjump) => {
+            let place = learnt.clauses.len();
+            learnt.keep(lits.as_slice(), derivation)?;
+            trail.backtrack(backjump.keep);
             let step = Step {
-                lit: turn.lit,
-                source: Some(Source::Learnt(place)),
+                lit: backjump.lit,
+                reason: Some(ClauseRef::Learnt(place)),
             };
             trail.push(step)?;
-            saved[turn.lit.var] = turn.lit.positive;
+            phases[backjump.lit.var] = backjump.lit.positive;
             Ok(None)
         }
     }
@@ -127,28 +130,28 @@ fn learn<'a>(
 /// Makes the next assumption or decision true, or answers.
 fn advance(
     alloc: Global,
-    facts: Facts<'_>,
+    database: Database<'_>,
     trail: &mut Trail,
-    saved: &mut [bool],
+    phases: &mut [bool],
 ) -> Result<Option<Answer>, NoMemory>
-    requires state { IsState (length saved.old) facts.added.now facts.learnt.now facts.assumed.now trail.old.steps.items trail.old.places.items }
-    requires quiet { NoneFalsified (known_of facts) trail.old.steps.items }
+    requires state { IsSearchState (length phases.old) database.added.now database.learnt.now database.assumed.now trail.old.steps.items trail.old.places.items }
+    requires quiet { NothingFalsified (lists_of database) trail.old.steps.items }
     ensures done { IfOk result (λ found. MatchOption found
-        (IsState (length saved.old) facts.entry.added.now facts.entry.learnt.now facts.entry.assumed.now trail.new.steps.items trail.new.places.items
+        (IsSearchState (length phases.old) database.entry.added.now database.entry.learnt.now database.entry.assumed.now trail.new.steps.items trail.new.places.items
         × (trail_weight trail.new.steps.items trail.new.places.items < trail_weight trail.old.steps.items trail.old.places.items))
-        (Answers (length saved.old) facts.entry.added.now facts.entry.learnt.now facts.entry.assumed.now)) }
+        (IsAnswer (length phases.old) database.entry.added.now database.entry.learnt.now database.entry.assumed.now)) }
 {
-    match choose(facts, trail, saved) {
+    match choose(database, trail, phases) {
         Choice::Refuted(place) => {
-            let derivation = refute(alloc, facts, trail, Source::Assumed(place))?;
+            let derivation = refute(alloc, database, trail, ClauseRef::Assumed(place))?;
             Ok(Some(Answer::Unsat(derivation)))
         }
         Choice::Next(step) => {
             trail.push(step)?;
-            saved[step.lit.var] = step.lit.positive;
+            phases[step.lit.var] = step.lit.positive;
             Ok(None)
         }
-        Choice::Done => Ok(Some(Answer::Sat(model(alloc, facts, trail)?))),
+        Choice::Done => Ok(Some(Answer::Sat(model(alloc, database, trail)?))),
     }
 }
 
@@ -156,36 +159,36 @@ fn advance(
 pub fn search<'a>(
     alloc: Global,
     added: &'a [Clause],
-    lessons: &mut Lessons,
-    saved: &mut [bool],
+    learnt: &mut LearntClauses,
+    phases: &mut [bool],
     assumed: &'a [Lit],
 ) -> Result<Answer, NoMemory>
-    requires added { AllWithin (length saved.old) added.now }
-    requires learnt { AllWithin (length saved.old) lessons.old.clauses.items }
-    requires assumed { AllWithin (length saved.old) (map unit_clause assumed.now) }
-    requires derived { AreDerived added.now lessons.old.clauses.items lessons.old.derivations.items }
-    ensures learnt { AllWithin (length saved.old) lessons.new.clauses.items }
-    ensures derived { AreDerived added.now lessons.new.clauses.items lessons.new.derivations.items }
-    ensures answers { IfOk result (Answers (length saved.old) added.now lessons.new.clauses.items assumed.now) }
+    requires added { AllWithin (length phases.old) added.now }
+    requires learnt { AllWithin (length phases.old) learnt.old.clauses.items }
+    requires assumed { AllWithin (length phases.old) (map unit_clause assumed.now) }
+    requires derived { AreDerivations added.now learnt.old.clauses.items learnt.old.derivations.items }
+    ensures learnt { AllWithin (length phases.old) learnt.new.clauses.items }
+    ensures derived { AreDerivations added.now learnt.new.clauses.items learnt.new.derivations.items }
+    ensures answers { IfOk result (IsAnswer (length phases.old) added.now learnt.new.clauses.items assumed.now) }
 {
-    let mut trail = Trail::new(alloc, saved.len())?;
+    let mut trail = Trail::new(alloc, phases.len())?;
     loop {
-        let facts = Facts {
+        let database = Database {
             added,
-            learnt: lessons.clauses.as_slice(),
+            learnt: learnt.clauses.as_slice(),
             assumed,
         };
-        let found = propagate(facts, &mut trail, saved)?;
+        let found = propagate(database, &mut trail, phases)?;
         match found {
-            Some(source) => {
+            Some(reason) => {
                 if let Some(derivation) = learn(
-                    alloc, added, lessons, assumed, &mut trail, saved, source,
+                    alloc, added, learnt, assumed, &mut trail, phases, reason,
                 )? {
                     return Ok(Answer::Unsat(derivation));
                 }
             }
             None => {
-                if let Some(answer) = advance(alloc, facts, &mut trail, saved)? {
+                if let Some(answer) = advance(alloc, database, &mut trail, phases)? {
                     return Ok(answer);
                 }
             }

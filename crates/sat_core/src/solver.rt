@@ -1,3 +1,5 @@
+//! The solver: `Solver::solve` under assumptions. What a call learns serves the later ones.
+
 ghost use Rattle.std.specs.Prelude.{◌≡◌, ◌<◌, ◌++◌, [], length, map, IfOk, All};
 ghost use Rattle.cnf.specs.Clauses.{IsModel, HasNoModel};
 ghost use Rattle.clause_log.specs.Derivations.{Derives};
@@ -6,7 +8,7 @@ ghost use Rattle.sat_core.specs.Search.{unit_clause};
 use crate::log::render;
 use crate::opposites::{opposites, units_log};
 use crate::outcome::Outcome;
-use crate::search::{Answer, Lessons, search};
+use crate::search::{Answer, LearntClauses, search};
 use clause_log::derivations_refute;
 use cnf::{Clause, ClauseBase, Lit};
 use port_types::NoMemory;
@@ -19,20 +21,20 @@ use std::marker::Model;
 #[derive(Debug, Drop)]
 pub struct Solver {
     added: Vec<Clause>,
-    lessons: Lessons,
-    saved: Vec<bool>,
+    learnt: LearntClauses,
+    phases: Vec<bool>,
 }
 
 impl Model for Solver {
     ghost use Rattle.std.specs.Prelude.{length};
     ghost use Rattle.cnf.specs.Clauses.{Problem};
-    ghost use Rattle.sat_core.specs.Choices.{IsSolver};
+    ghost use Rattle.sat_core.specs.Decisions.{IsSolver};
 
     ghost Value = { Problem };
 
-    ghost view = { λ s. record { vars = length s.saved.items; clauses = s.added.items } };
+    ghost view = { λ s. record { vars = length s.phases.items; clauses = s.added.items } };
 
-    ghost invariant = { λ s. IsSolver (length s.saved.items) s.added.items s.lessons.clauses.items s.lessons.derivations.items };
+    ghost invariant = { λ s. IsSolver (length s.phases.items) s.added.items s.learnt.clauses.items s.learnt.derivations.items };
 }
 
 impl Solver {
@@ -45,8 +47,8 @@ impl Solver {
     {
         Solver {
             added: Vec::new(alloc),
-            lessons: Lessons::new(alloc),
-            saved: Vec::new(alloc),
+            learnt: LearntClauses::new(alloc),
+            phases: Vec::new(alloc),
         }
     }
 
@@ -60,9 +62,10 @@ impl Solver {
         ensures unsat { IfOk result (λ outcome. IfUnsat outcome (λ _. HasNoModel self.old.vars (self.old.clauses ++ map unit_clause assumptions.now))) }
         ensures log { IfOk result (λ outcome. IfUnsat outcome (Derives (self.old.clauses ++ map unit_clause assumptions.now))) }
         ensures opposite { HasOpposites assumptions.now → IfOk result (λ outcome. IsUnsat outcome (IsOfUnits (length self.old.clauses) assumptions.now)) }
-        ensures same { self.new ≡ self.old }
+        ensures vars { self.new.vars ≡ self.old.vars }
+        ensures clauses { self.new.clauses ≡ self.old.clauses }
     {
-        derivations_refute();
+        derivations_refute(); // a law: no code runs
         match opposites(assumptions) {
             Some((place, other)) => {
                 let alloc = *self.added.allocator();
@@ -78,14 +81,15 @@ impl Solver {
         requires { All (λ lit. lit.var < self.old.vars) assumptions.now }
         ensures sat { IfOk result (λ outcome. IfSat outcome (IsModel self.old.vars (self.old.clauses ++ map unit_clause assumptions.now))) }
         ensures log { IfOk result (λ outcome. IfUnsat outcome (Derives (self.old.clauses ++ map unit_clause assumptions.now))) }
-        ensures same { self.new ≡ self.old }
+        ensures vars { self.new.vars ≡ self.old.vars }
+        ensures clauses { self.new.clauses ≡ self.old.clauses }
     {
         let alloc = *self.added.allocator();
         let answer = search(
             alloc,
             self.added.as_slice(),
-            &mut self.lessons,
-            self.saved.as_mut_slice(),
+            &mut self.learnt,
+            self.phases.as_mut_slice(),
             assumptions,
         )?;
         match answer {
@@ -95,8 +99,8 @@ impl Solver {
                     alloc,
                     self.added.as_slice(),
                     assumptions,
-                    self.lessons.clauses.as_slice(),
-                    self.lessons.derivations.as_slice(),
+                    self.learnt.clauses.as_slice(),
+                    self.learnt.derivations.as_slice(),
                     &last,
                 )?;
                 Ok(Outcome::Unsat(log))
@@ -111,12 +115,12 @@ impl ClauseBase for Solver {
     ghost clauses = { λ s. s.clauses };
 
     fn vars(&self) -> usize {
-        self.saved.len()
+        self.phases.len()
     }
 
     fn new_var(&mut self) -> Result<usize, NoMemory> {
-        let var = self.saved.len();
-        self.saved.push(false)?;
+        let var = self.phases.len();
+        self.phases.push(false)?;
         Ok(var)
     }
 

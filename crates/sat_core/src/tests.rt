@@ -1,3 +1,5 @@
+//! Lists of clauses with known answers, and random lists against a table of all assignments; each log is checked.
+
 ghost use Rattle.std.specs.Prelude.{◌<◌, ◌↔◌, IsTrue, All};
 
 use crate::{Outcome, Solver};
@@ -24,7 +26,7 @@ fn lits(alloc: Global, numbers: &[i32]) -> Result<Vec<Lit>, NoMemory> {
 }
 
 // The clauses of numbers, each ended by a 0.
-fn clauses_of(alloc: Global, numbers: &[i32]) -> Result<Vec<Clause>, NoMemory> {
+fn clauses_of_numbers(alloc: Global, numbers: &[i32]) -> Result<Vec<Clause>, NoMemory> {
     let mut clauses = Vec::new(alloc);
     let mut open = Clause::new(alloc);
     for number in numbers {
@@ -159,7 +161,7 @@ const SMALL: [(&[i32], &[i32], bool); 14] = [
 fn small_lists(rt: HostRuntime) -> Result<(), Fail> {
     let alloc = rt.alloc();
     for (numbers, assumed, expected) in SMALL {
-        let clauses = clauses_of(alloc, numbers)?;
+        let clauses = clauses_of_numbers(alloc, numbers)?;
         let assumptions = lits(alloc, assumed)?;
         let mut solver = solver_of(alloc, 3, &clauses)?;
         assert_eq!(rt;
@@ -184,7 +186,7 @@ fn value(solver: &mut Solver, assumption: Lit, var: usize) -> Result<Option<bool
 #[test]
 fn an_assumption_forces_the_other_literal(rt: HostRuntime) -> Result<(), Fail> {
     let alloc = rt.alloc();
-    let clauses = clauses_of(alloc, &[1, 2, 0])?;
+    let clauses = clauses_of_numbers(alloc, &[1, 2, 0])?;
     let mut solver = solver_of(alloc, 2, &clauses)?;
     assert_eq!(rt; value(&mut solver, lit(-1), 1)?, Some(true));
     assert_eq!(rt; value(&mut solver, lit(-2), 0)?, Some(true));

@@ -1,8 +1,10 @@
+//! The trail: literals in the order in which they were made true, with the place of each variable.
+
 ghost use Rattle.std.specs.Prelude.{◌≡◌, ◌<◌, ◌≤◌, ◌+◌, ◌∷◌, ◌++◌, ◌↔◌, ℕ, [], true, false, length, take, IsTrue, IfOk, IfSome, OnOk, OnErr, MatchOption, slice_index_or, vec_len};
 ghost use Rattle.cnf.specs.declared.lit.Lit.{Lit};
-ghost use Rattle.sat_core.specs.Search.{step_at, lit_at, MadeTrue, IsFree, IsTrail, opens_level, ValueIs};
+ghost use Rattle.sat_core.specs.Search.{step_at, lit_at, MadeTrue, IsUnassigned, IsTrail, opens_level, ValueIs};
 
-use crate::source::Source;
+use crate::clause_ref::ClauseRef;
 use cnf::Lit;
 use port_types::NoMemory;
 use std::alloc::Global;
@@ -11,7 +13,7 @@ use std::alloc::Global;
 #[derive(Clone, Copy, Debug)]
 pub struct Step {
     pub lit: Lit,
-    pub source: Option<Source>,
+    pub reason: Option<ClauseRef>,
 }
 
 /// The literals made true, in order, and the place of each variable among them.
@@ -23,13 +25,13 @@ pub struct Trail {
 
 /// Whether a step opens a level: it is a decision or an assumption.
 pub fn opens(step: Step) -> bool
-    ensures { result ≡ opens_level step.source }
+    ensures { result ≡ opens_level step.reason }
 {
-    match step.source {
+    match step.reason {
         None => true,
-        Some(Source::Assumed(_)) => true,
-        Some(Source::Added(_)) => false,
-        Some(Source::Learnt(_)) => false,
+        Some(ClauseRef::Assumed(_)) => true,
+        Some(ClauseRef::Added(_)) => false,
+        Some(ClauseRef::Learnt(_)) => false,
     }
 }
 
@@ -121,7 +123,7 @@ impl Trail {
     }
 
     /// Takes back all but the first `keep` steps.
-    pub fn cut(&mut self, keep: usize)
+    pub fn backtrack(&mut self, keep: usize)
         requires trail { IsTrail self.old.steps.items self.old.places.items }
         ensures trail { IsTrail self.new.steps.items self.new.places.items }
         ensures vars { length self.new.places.items ≡ length self.old.places.items }
@@ -137,8 +139,8 @@ impl Trail {
     /// The first place from `from` on, and before `to`, whose step opens a level.
     pub fn opening(&self, from: usize, to: usize) -> Option<usize>
         requires { to ≤ length self.now.steps.items }
-        ensures some { IfSome result (λ place. (from ≤ place) × (place < to) × (opens_level (step_at self.now.steps.items place).source ≡ true)) }
-        ensures none { result ≡ None → (p : ℕ) → from ≤ p → p < to → opens_level (step_at self.now.steps.items p).source ≡ false }
+        ensures some { IfSome result (λ place. (from ≤ place) × (place < to) × (opens_level (step_at self.now.steps.items place).reason ≡ true)) }
+        ensures none { result ≡ None → (p : ℕ) → from ≤ p → p < to → opens_level (step_at self.now.steps.items p).reason ≡ false }
     {
         for place in from..to {
             if opens(self.steps[place]) {

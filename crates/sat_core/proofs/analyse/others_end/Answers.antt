@@ -2,7 +2,7 @@ use Rattle.std.proofs.Common.{◌<◌, ◌≤◌, ◌+◌, take, length, get_or,
 use Rattle.std.proofs.lemmas.List.{take_all}
 use Rattle.std.proofs.lemmas.Bool.{false≢true}
 use Rattle.std.proofs.lemmas.List.Elements.{Contains-get_or}
-use Rattle.sat_core.specs.Lessons.{OthersFalse}
+use Rattle.sat_core.specs.Learning.{OthersFalse}
 use Rattle.sat_core.proofs.Members.{any_lit, self_read}
 use Rattle.sat_core.proofs.Analysis.{others_least, others-more, others-skip, max_left, max_right, max_least}
 use Rattle.sat_core.proofs.analyse.others_end.Goals as goal

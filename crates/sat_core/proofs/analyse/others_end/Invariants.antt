@@ -1,5 +1,5 @@
 use Rattle.std.proofs.Common.{ℕ, ◌≤◌, take, length}
-use Rattle.sat_core.specs.Lessons.{OthersFalse}
+use Rattle.sat_core.specs.Learning.{OthersFalse}
 use Rattle.sat_core.proofs.analyse.others_end.Given as goal
 
 abbrev pub invariant-loop-lit : goal.invariant-loop-lit

@@ -1,6 +1,6 @@
 use Rattle.std.proofs.Common.{◌≡◌, ◌+◌, ◌-◌, List, subst, sym, refl, arith}
 use Rattle.cnf.specs.declared.lit.Lit.{Lit}
-use Rattle.sat_core.specs.Search.{known_of, AllFalse, Derived}
+use Rattle.sat_core.specs.Search.{lists_of, AllFalse, IsDerivation}
 use Rattle.sat_core.proofs.Chains.{none_false}
 use Rattle.sat_core.proofs.Analysis.{derived_start, AllFalse-at}
 use Rattle.sat_core.proofs.analyse.refute.Goals as goal
@@ -11,7 +11,7 @@ loop-at-init c =
     let len = c.len-at.ensures in
     record {
       within = omega (arith, len);
-      derived = derived_start (known_of c.args.facts) c.args.source _ _ _ e.lits e.first e.rest c.requires.named;
+      derived = derived_start (lists_of c.args.database) c.args.reason _ _ _ e.lits e.first e.rest c.requires.named;
       all = AllFalse-at c.args.trail.now.steps.items _ _ _ _ (sym len) e.lits c.requires.all;
     }
 
@@ -24,4 +24,4 @@ returns c =
     let steps = c.args.trail.now.steps.items in
     let at : c.loop-at.at ≡ 0 = omega arith in
     let none = none_false steps c.loop-at.resolvent.lits.items (subst (λ n. AllFalse steps n c.loop-at.resolvent.lits.items) at c.loop-at.invariant.all) in
-    subst (λ (l : List Lit). Derived (known_of c.args.facts) c.loop-at.resolvent.derivation.first c.loop-at.resolvent.derivation.rest.items l) none c.loop-at.invariant.derived
+    subst (λ (l : List Lit). IsDerivation (lists_of c.args.database) c.loop-at.resolvent.derivation.first c.loop-at.resolvent.derivation.rest.items l) none c.loop-at.invariant.derived

@@ -1,11 +1,11 @@
 use Rattle.std.proofs.Common.{◌≤◌, length}
-use Rattle.sat_core.specs.Search.{known_of, Derived, AllFalse}
+use Rattle.sat_core.specs.Search.{lists_of, IsDerivation, AllFalse}
 use Rattle.sat_core.proofs.analyse.refute.Given as goal
 
 abbrev pub invariant-loop-at : goal.invariant-loop-at
 invariant-loop-at l = record {
   within : l.at ≤ length l.trail.steps.items;
-  derived : Derived (known_of l.facts) l.resolvent.derivation.first l.resolvent.derivation.rest.items l.resolvent.lits.items;
+  derived : IsDerivation (lists_of l.database) l.resolvent.derivation.first l.resolvent.derivation.rest.items l.resolvent.lits.items;
   all : AllFalse l.trail.steps.items l.at l.resolvent.lits.items;
 }
 

@@ -3,7 +3,7 @@ use Rattle.std.proofs.lemmas.List.{take_all}
 use Rattle.std.proofs.lemmas.Bool.{false≢true}
 use Rattle.cnf.specs.declared.lit.Lit.{Lit}
 use Rattle.sat_core.specs.Search.{IsJoined}
-use Rattle.sat_core.proofs.Members.{any_lit, self_read, joined-keep, joined-there}
+use Rattle.sat_core.proofs.Members.{any_lit, self_read, resolvent-keep, resolvent-there}
 use Rattle.sat_core.proofs.chain.join.Goals as goal
 use Rattle.sat_core.proofs.chain.join.Goals.{then-not-skips+in_ok-push, else-not-skips}
 
@@ -18,14 +18,14 @@ loop-other-preserved c =
     elim c.if-not-skips.branch [
       | then-not-skips+in_ok-push w ↦
           subst (λ (l : List Lit). IsJoined old (take (i + 1) xs) c.args.but l) (sym (ap (λ v. v.items) w.lits-is ∙ w.in_ok-push.ensures.items))
-          (joined-keep xs i x h (self_read xs i h) old c.args.but all (λ q. false≢true (w.if-not-skips.ensures.1 (inl q))) c.loop-other.invariant)
+          (resolvent-keep xs i x h (self_read xs i h) old c.args.but all (λ q. false≢true (w.if-not-skips.ensures.1 (inl q))) c.loop-other.invariant)
       | else-not-skips w ↦
           let there = elim (w.if-not-skips.ensures.0 refl) as (λ _. (x ≡ c.args.but) ⊎ Contains all x) [
             | inl s ↦ inl s
             | inr has ↦ inr (subst (λ (l : List Lit). Contains l x) c.as_slice.ensures.value has)
           ] in
           subst (λ (l : List Lit). IsJoined old (take (i + 1) xs) c.args.but l) (sym (ap (λ v. v.items) w.lits-is))
-          (joined-there xs i x h (self_read xs i h) old c.args.but all there c.loop-other.invariant)
+          (resolvent-there xs i x h (self_read xs i h) old c.args.but all there c.loop-other.invariant)
     ]
 
 pub returns : goal.returns

@@ -4,4 +4,4 @@ use Rattle.sat_core.proofs.Members.{any_lit}
 use Rattle.sat_core.proofs.choose.choose.Given as goal
 
 abbrev pub invariant-loop-place : goal.invariant-loop-place
-invariant-loop-place l = (p : ℕ) → p < l.place → MadeTrue l.trail.steps.items (length l.trail.steps.items) (get_or l.facts.assumed.now p any_lit)
+invariant-loop-place l = (p : ℕ) → p < l.place → MadeTrue l.trail.steps.items (length l.trail.steps.items) (get_or l.database.assumed.now p any_lit)

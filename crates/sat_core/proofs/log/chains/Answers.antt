@@ -1,7 +1,7 @@
 use Rattle.std.proofs.Common.{◌<◌, ◌+◌, ◌^◌, ℕ, List, [], true, false, length, take, get_or, arith, ap, sym, subst, ◌∙◌}
 use Rattle.std.proofs.lemmas.List.{get_or_default, get_or_read, length-take, length_push}
 use Rattle.sat_core.specs.declared.chain.Derivation.{Derivation}
-use Rattle.sat_core.specs.Search.{Derived, known_from}
+use Rattle.sat_core.specs.Search.{IsDerivation, clause_lists}
 use Rattle.sat_core.specs.Numbering.{AllHaveNumbers}
 use Rattle.sat_core.proofs.Logs.{derived_numbers, chain_next, skip_next}
 use Rattle.sat_core.proofs.log.chains.Goals as goal
@@ -13,9 +13,9 @@ chain-requires c =
     let learnt = c.args.learnt.now in
     let place = c.loop-place.place in
     let d = c.index-derivations-place.result in
-    let k = known_from added (take place learnt) [] in
+    let k = clause_lists added (take place learnt) [] in
     let h : place < length learnt = omega arith in
-    let x = subst (λ (y : Derivation). Derived k y.first y.rest.items (get_or learnt place [])) (sym c.index-derivations-place.is) (c.requires.derived.each place d h) in
+    let x = subst (λ (y : Derivation). IsDerivation k y.first y.rest.items (get_or learnt place [])) (sym c.index-derivations-place.is) (c.requires.derived.each place d h) in
     let small : length added + 0 < 2 ^ 64 = omega arith in
     subst (λ (l : List ℕ). AllHaveNumbers (length added) l d.first d.rest.items) (sym c.as_slice.ensures.value)
     (derived_numbers added (take place learnt) [] c.loop-place.numbers.items d.first d.rest.items (get_or learnt place []) (omega (arith, length-take place learnt, c.loop-place.invariant.numbered.counted)) small x)

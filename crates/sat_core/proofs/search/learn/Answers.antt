@@ -6,65 +6,65 @@ use Rattle.sat_core.proofs.search.learn.Goals as goal
 
 pub returns-in-None-clause-done : goal.returns-in-None-clause-done
 returns-in-None-clause-done c =
-    let lesson = c.in_ok-lits.field-0 in
-    let e : lesson.turn ≡ None = cc in
-    lesson_ends c.args.added.now c.args.lessons.now.clauses.items c.as_slice.result.now c.args.assumed.now c.args.trail.now.steps.items lesson c.as_slice.ensures.value e c.in_ok-lits.ensures
+    let learnt_clause = c.in_ok-lits.field-0 in
+    let e : learnt_clause.backjump ≡ None = cc in
+    lesson_ends c.args.added.now c.args.learnt.now.clauses.items c.as_slice.result.now c.args.assumed.now c.args.trail.now.steps.items learnt_clause c.as_slice.ensures.value e c.in_ok-lits.ensures
 
 pub returns-in_err-keep-in-Some-clause-learnt : goal.returns-in_err-keep-in-Some-clause-learnt
 returns-in_err-keep-in-Some-clause-learnt c =
-    subst (λ (x : List (List Lit)). AllWithin (length c.args.saved.now) x) (sym c.in_err-keep-in-Some.ensures.err_clauses) c.requires.state.learnt_within
+    subst (λ (x : List (List Lit)). AllWithin (length c.args.phases.now) x) (sym c.in_err-keep-in-Some.ensures.err_clauses) c.requires.state.learnt_within
 
 pub push-requires-clause-var : goal.push-requires-clause-var
 push-requires-clause-var c =
-    let lesson = c.in_ok-lits.field-0 in
-    let e : lesson.turn ≡ Some c.in-Some.turn = cc in
-    let v = turn_var _ c.args.trail.now.steps.items c.args.trail.now.places.items lesson c.in-Some.turn c.requires.state.trail e c.in_ok-lits.ensures in
-    omega (arith, v, c.cut.ensures.vars)
+    let learnt_clause = c.in_ok-lits.field-0 in
+    let e : learnt_clause.backjump ≡ Some c.in-Some.backjump = cc in
+    let v = turn_var _ c.args.trail.now.steps.items c.args.trail.now.places.items learnt_clause c.in-Some.backjump c.requires.state.trail e c.in_ok-lits.ensures in
+    omega (arith, v, c.backtrack.ensures.vars)
 
 pub push-requires-clause-free : goal.push-requires-clause-free
 push-requires-clause-free c =
-    let lesson = c.in_ok-lits.field-0 in
+    let learnt_clause = c.in_ok-lits.field-0 in
     let steps = c.args.trail.now.steps.items in
-    let e : lesson.turn ≡ Some c.in-Some.turn = cc in
-    let places = c.cut.new.self.places.items in
-    cut_free steps places lesson.lits.items c.in-Some.turn.lit c.in-Some.turn.keep (subst (λ l. IsTrail l places) c.cut.ensures.steps c.cut.ensures.trail) (lesson_turns _ steps lesson c.in-Some.turn e c.in_ok-lits.ensures)
+    let e : learnt_clause.backjump ≡ Some c.in-Some.backjump = cc in
+    let places = c.backtrack.new.self.places.items in
+    cut_free steps places learnt_clause.lits.items c.in-Some.backjump.lit c.in-Some.backjump.keep (subst (λ l. IsTrail l places) c.backtrack.ensures.steps c.backtrack.ensures.trail) (lesson_turns _ steps learnt_clause c.in-Some.backjump e c.in_ok-lits.ensures)
 
 pub returns-in_err-push-in-Some-clause-learnt : goal.returns-in_err-push-in-Some-clause-learnt
 returns-in_err-push-in-Some-clause-learnt c =
-    let lesson = c.in_ok-lits.field-0 in
-    let f : c.as_slice-in-Some.result.now ≡ lesson.lits.items = cc in
-    lesson_within (length c.args.saved.now) _ c.args.trail.now.steps.items c.args.trail.now.places.items c.args.lessons.now.clauses.items c.keep.new.self.clauses.items c.as_slice-in-Some.result.now lesson c.requires.state.trail c.requires.state.vars c.in_ok-lits.ensures f c.in_ok-keep-in-Some.ensures.clauses c.requires.state.learnt_within
+    let learnt_clause = c.in_ok-lits.field-0 in
+    let f : c.as_slice-in-Some.result.now ≡ learnt_clause.lits.items = cc in
+    lesson_within (length c.args.phases.now) _ c.args.trail.now.steps.items c.args.trail.now.places.items c.args.learnt.now.clauses.items c.keep.new.self.clauses.items c.as_slice-in-Some.result.now learnt_clause c.requires.state.trail c.requires.state.vars c.in_ok-lits.ensures f c.in_ok-keep-in-Some.ensures.clauses c.requires.state.learnt_within
 
 pub returns-in_err-push-in-Some-clause-derived : goal.returns-in_err-push-in-Some-clause-derived
 returns-in_err-push-in-Some-clause-derived c =
-    let lesson = c.in_ok-lits.field-0 in
-    let f : c.as_slice-in-Some.result.now ≡ lesson.lits.items = cc in
-    lesson_derived c.args.added.now c.args.lessons.now.clauses.items c.as_slice.result.now c.keep.new.self.clauses.items c.args.trail.now.steps.items c.args.lessons.now.derivations.items c.keep.new.self.derivations.items c.as_slice-in-Some.result.now lesson lesson.derivation c.as_slice.ensures.value c.in_ok-lits.ensures f refl c.in_ok-keep-in-Some.ensures.clauses c.in_ok-keep-in-Some.ensures.derivations c.requires.derived
+    let learnt_clause = c.in_ok-lits.field-0 in
+    let f : c.as_slice-in-Some.result.now ≡ learnt_clause.lits.items = cc in
+    lesson_derived c.args.added.now c.args.learnt.now.clauses.items c.as_slice.result.now c.keep.new.self.clauses.items c.args.trail.now.steps.items c.args.learnt.now.derivations.items c.keep.new.self.derivations.items c.as_slice-in-Some.result.now learnt_clause learnt_clause.derivation c.as_slice.ensures.value c.in_ok-lits.ensures f refl c.in_ok-keep-in-Some.ensures.clauses c.in_ok-keep-in-Some.ensures.derivations c.requires.derived
 
-pub bounds-saved-turn : goal.bounds-saved-turn
-bounds-saved-turn c =
-    let lesson = c.in_ok-lits.field-0 in
-    let e : lesson.turn ≡ Some c.in-Some.turn = cc in
-    let v = turn_var _ c.args.trail.now.steps.items c.args.trail.now.places.items lesson c.in-Some.turn c.requires.state.trail e c.in_ok-lits.ensures in
+pub bounds-phases-backjump : goal.bounds-phases-backjump
+bounds-phases-backjump c =
+    let learnt_clause = c.in_ok-lits.field-0 in
+    let e : learnt_clause.backjump ≡ Some c.in-Some.backjump = cc in
+    let v = turn_var _ c.args.trail.now.steps.items c.args.trail.now.places.items learnt_clause c.in-Some.backjump c.requires.state.trail e c.in_ok-lits.ensures in
     omega (arith, v, c.requires.state.vars)
 
 pub returns-clause-learnt : goal.returns-clause-learnt
 returns-clause-learnt c =
-    let lesson = c.in_ok-lits.field-0 in
-    let f : c.as_slice-in-Some.result.now ≡ lesson.lits.items = cc in
-    lesson_within (length c.args.saved.now) _ c.args.trail.now.steps.items c.args.trail.now.places.items c.args.lessons.now.clauses.items c.keep.new.self.clauses.items c.as_slice-in-Some.result.now lesson c.requires.state.trail c.requires.state.vars c.in_ok-lits.ensures f c.in_ok-keep-in-Some.ensures.clauses c.requires.state.learnt_within
+    let learnt_clause = c.in_ok-lits.field-0 in
+    let f : c.as_slice-in-Some.result.now ≡ learnt_clause.lits.items = cc in
+    lesson_within (length c.args.phases.now) _ c.args.trail.now.steps.items c.args.trail.now.places.items c.args.learnt.now.clauses.items c.keep.new.self.clauses.items c.as_slice-in-Some.result.now learnt_clause c.requires.state.trail c.requires.state.vars c.in_ok-lits.ensures f c.in_ok-keep-in-Some.ensures.clauses c.requires.state.learnt_within
 
 pub returns-clause-derived : goal.returns-clause-derived
 returns-clause-derived c =
-    let lesson = c.in_ok-lits.field-0 in
-    let f : c.as_slice-in-Some.result.now ≡ lesson.lits.items = cc in
-    lesson_derived c.args.added.now c.args.lessons.now.clauses.items c.as_slice.result.now c.keep.new.self.clauses.items c.args.trail.now.steps.items c.args.lessons.now.derivations.items c.keep.new.self.derivations.items c.as_slice-in-Some.result.now lesson lesson.derivation c.as_slice.ensures.value c.in_ok-lits.ensures f refl c.in_ok-keep-in-Some.ensures.clauses c.in_ok-keep-in-Some.ensures.derivations c.requires.derived
+    let learnt_clause = c.in_ok-lits.field-0 in
+    let f : c.as_slice-in-Some.result.now ≡ learnt_clause.lits.items = cc in
+    lesson_derived c.args.added.now c.args.learnt.now.clauses.items c.as_slice.result.now c.keep.new.self.clauses.items c.args.trail.now.steps.items c.args.learnt.now.derivations.items c.keep.new.self.derivations.items c.as_slice-in-Some.result.now learnt_clause learnt_clause.derivation c.as_slice.ensures.value c.in_ok-lits.ensures f refl c.in_ok-keep-in-Some.ensures.clauses c.in_ok-keep-in-Some.ensures.derivations c.requires.derived
 
 pub returns-clause-done : goal.returns-clause-done
 returns-clause-done c =
-    let lesson = c.in_ok-lits.field-0 in
-    let f : c.as_slice-in-Some.result.now ≡ lesson.lits.items = cc in
-    let e : lesson.turn ≡ Some c.in-Some.turn = cc in
-    let p : c.len-place.result ≡ length c.args.lessons.now.clauses.items = c.len-place.ensures ∙ c.args.lessons.now.clauses.ok.0 in
+    let learnt_clause = c.in_ok-lits.field-0 in
+    let f : c.as_slice-in-Some.result.now ≡ learnt_clause.lits.items = cc in
+    let e : learnt_clause.backjump ≡ Some c.in-Some.backjump = cc in
+    let p : c.len-place.result ≡ length c.args.learnt.now.clauses.items = c.len-place.ensures ∙ c.args.learnt.now.clauses.ok.0 in
     let w = c.in_ok-push-in-Some.ensures in
-    lesson_state (length c.args.saved.now) c.args.added.now c.args.lessons.now.clauses.items c.keep.new.self.clauses.items c.args.assumed.now _ c.args.trail.now.steps.items c.cut.new.self.steps.items c.push.new.self.steps.items c.args.trail.now.places.items c.push.new.self.places.items c.as_slice-in-Some.result.now lesson c.in-Some.turn c.len-place.result c.requires.state c.in_ok-lits.ensures e f c.in_ok-keep-in-Some.ensures.clauses p c.cut.ensures.steps w.ok w.trail (w.vars ∙ c.cut.ensures.vars)
+    lesson_state (length c.args.phases.now) c.args.added.now c.args.learnt.now.clauses.items c.keep.new.self.clauses.items c.args.assumed.now _ c.args.trail.now.steps.items c.backtrack.new.self.steps.items c.push.new.self.steps.items c.args.trail.now.places.items c.push.new.self.places.items c.as_slice-in-Some.result.now learnt_clause c.in-Some.backjump c.len-place.result c.requires.state c.in_ok-lits.ensures e f c.in_ok-keep-in-Some.ensures.clauses p c.backtrack.ensures.steps w.ok w.trail (w.vars ∙ c.backtrack.ensures.vars)

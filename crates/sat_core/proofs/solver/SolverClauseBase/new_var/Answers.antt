@@ -2,7 +2,7 @@ use Rattle.std.proofs.Common.{◌≤◌, ℕ, false, List, length, ap, arith}
 use Rattle.std.proofs.lemmas.List.{length_push}
 use Rattle.cnf.specs.declared.lit.Lit.{Lit}
 use Rattle.sat_core.specs.declared.chain.Derivation.{Derivation}
-use Rattle.sat_core.specs.Choices.{IsSolver}
+use Rattle.sat_core.specs.Decisions.{IsSolver}
 use Rattle.sat_core.proofs.Searching.{within_more}
 use Rattle.sat_core.proofs.solver.SolverClauseBase.new_var.Goals as goal
 
@@ -15,4 +15,4 @@ more_vars n m added learnt derivations le s = record {
 
 pub invariant_of-self-2 : goal.invariant_of-self-2
 invariant_of-self-2 c =
-    more_vars (length c.self.inside.saved.items) (length c.push.new.self.items) c.self.inside.added.items c.self.inside.lessons.clauses.items c.self.inside.lessons.derivations.items (omega (arith, ap length c.in_ok-push.ensures.items, length_push c.self.inside.saved.items false)) c.self.invariant
+    more_vars (length c.self.inside.phases.items) (length c.push.new.self.items) c.self.inside.added.items c.self.inside.learnt.clauses.items c.self.inside.learnt.derivations.items (omega (arith, ap length c.in_ok-push.ensures.items, length_push c.self.inside.phases.items false)) c.self.invariant

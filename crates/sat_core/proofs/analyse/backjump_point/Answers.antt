@@ -2,9 +2,9 @@ use Rattle.std.proofs.Common.{◌+◌, length, subst, sym, refl, ap, ◌∙◌, 
 use Rattle.cnf.specs.declared.lit.Lit.{Lit}
 use Rattle.cnf.specs.Clauses.{opposite}
 use Rattle.sat_core.specs.declared.trail.Step.{Step}
-use Rattle.sat_core.specs.Lessons.{OthersFalse}
+use Rattle.sat_core.specs.Learning.{OthersFalse}
 use Rattle.sat_core.proofs.Analysis.{AllFalse-later, turning_some, others_before}
-use Rattle.sat_core.proofs.analyse.turning.Goals as goal
+use Rattle.sat_core.proofs.analyse.backjump_point.Goals as goal
 
 pub others_end-end-requires-clause-all : goal.others_end-end-requires-clause-all
 others_end-end-requires-clause-all c =

@@ -2,7 +2,7 @@ use Rattle.std.proofs.Common.{◌≡◌, ◌∷◌, ◌++◌, [], ◌<◌, take,
 use Rattle.std.proofs.lemmas.List.{length-set, take-append-le, length_push}
 use Rattle.sat_core.specs.Search.{IsTrail}
 use Rattle.sat_core.proofs.Trails.{IsTrail-pop}
-use Rattle.sat_core.proofs.trail.Trail.cut.Goals as goal
+use Rattle.sat_core.proofs.trail.Trail.backtrack.Goals as goal
 
 pub loop-self-preserved-in-Some : goal.loop-self-preserved-in-Some
 loop-self-preserved-in-Some c =

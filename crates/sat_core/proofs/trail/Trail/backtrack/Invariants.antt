@@ -1,6 +1,6 @@
 use Rattle.std.proofs.Common.{◌≡◌, take, length}
 use Rattle.sat_core.specs.Search.{IsTrail}
-use Rattle.sat_core.proofs.trail.Trail.cut.Given as goal
+use Rattle.sat_core.proofs.trail.Trail.backtrack.Given as goal
 
 abbrev pub invariant-loop-self : goal.invariant-loop-self
 invariant-loop-self l = record {
