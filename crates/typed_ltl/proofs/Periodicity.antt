@@ -3,9 +3,9 @@ use Rattle.std.proofs.Math.Nat.{add-mod_right, mod-eq_of_lt}
 use Rattle.std.proofs.lemmas.Bool.{cond-true, cond-false, cases_lt, lt-ltb, le-ltb}
 use Rattle.std.proofs.Math.Logic.{inl, inr}
 use Rattle.typed_ltl.specs.Formulas as form
-use Rattle.typed_ltl.specs.Formulas.{Ltl, Test}
-use Rattle.typed_ltl.specs.Traces.{Assignment, Trace, assignment, place, word}
-use Rattle.typed_ltl.specs.Truth.{Holds, Reaches, test}
+use Rattle.typed_ltl.specs.Formulas.{Ltl, Proposition}
+use Rattle.typed_ltl.specs.Traces.{Assignment, Trace, assignment, lasso_place, word}
+use Rattle.typed_ltl.specs.Truth.{Holds, HoldsUntil, proposition_truth}
 use Rattle.typed_ltl.specs.Laws.{Recurs, TruthRecurs, WordsRecur, LassoTruthRecurs}
 use Rattle.typed_ltl.proofs.Derived.{or_is_core, implies_is_core, future_is_core, always_is_core, never_is_core, releases_is_core}
 
@@ -26,7 +26,7 @@ next_repeats P l p r i le =
     let both = r (i + 1) (omega arith) in
     (λ h. subst P e (both.0 h), λ h. both.1 (subst P (sym e) h))
 
-pub until_repeats : (P Q : ℕ → Type 0) (l p : ℕ) → Repeats P l p → Repeats Q l p → Repeats (Reaches P Q) l p
+pub until_repeats : (P Q : ℕ → Type 0) (l p : ℕ) → Repeats P l p → Repeats Q l p → Repeats (HoldsUntil P Q) l p
 until_repeats P Q l p r s i le = (
   λ reach none. reach (λ j lo q t.
       none (j + p) (omega arith) ((s j (omega arith)).0 q) (λ k low high.
@@ -43,15 +43,17 @@ pub repeats_along : (P Q : ℕ → Type 0) (l p : ℕ) → ((i : ℕ) → P i �
 repeats_along P Q l p e r i le =
     (λ h. (e (i + p)).1 ((r i le).0 ((e i).0 h)), λ h. (e i).1 ((r i le).1 ((e (i + p)).0 h)))
 
-same_test : (a : Test) (x x' y y' : Assignment) → x ≡ x' → y ≡ y' → test x y a ≡ test x' y' a
-same_test a x x' y y' e f = ap (λ z. test z y a) e ∙ ap (λ z. test x' z a) f
+same_proposition : (a : Proposition) (x x' y y' : Assignment) → x ≡ x' → y ≡ y'
+    → proposition_truth x y a ≡ proposition_truth x' y' a
+same_proposition a x x' y y' e f = ap (λ z. proposition_truth z y a) e ∙ ap (λ z. proposition_truth x' z a) f
 
-atom_repeats : (w : Trace) (l p : ℕ) → Recurs w l p → (a : Test) → Repeats (λ i. test (w i) (w (i + 1)) a ≡ true) l p
+atom_repeats : (w : Trace) (l p : ℕ) → Recurs w l p → (a : Proposition)
+    → Repeats (λ i. proposition_truth (w i) (w (i + 1)) a ≡ true) l p
 atom_repeats w l p r a i le =
     let turn : (i + 1) + p ≡ (i + p) + 1 = omega arith in
     let next : w ((i + p) + 1) ≡ w (i + 1) = ap w (sym turn) ∙ r (i + 1) (omega arith) in
-    let e : test (w (i + p)) (w ((i + p) + 1)) a ≡ test (w i) (w (i + 1)) a =
-    same_test a (w (i + p)) (w i) (w ((i + p) + 1)) (w (i + 1)) (r i le) next in
+    let e : proposition_truth (w (i + p)) (w ((i + p) + 1)) a ≡ proposition_truth (w i) (w (i + 1)) a =
+    same_proposition a (w (i + p)) (w i) (w ((i + p) + 1)) (w (i + 1)) (r i le) next in
     (λ h. e ∙ h, λ h. sym e ∙ h)
 
 pub truth_repeats : (w : Trace) (l p : ℕ) → Recurs w l p → (f : Ltl) → Repeats (Holds w f) l p
@@ -62,7 +64,8 @@ truth_repeats w l p r (form.Not f) = not_repeats (Holds w f) l p (truth_repeats 
 truth_repeats w l p r (form.And f g) = and_repeats (Holds w f) (Holds w g) l p (truth_repeats w l p r f) (truth_repeats w l p r g)
 truth_repeats w l p r (form.Or f g) =
     repeats_along (Holds w (form.Or f g)) (Holds w (form.Not (form.And (form.Not f) (form.Not g)))) l p (or_is_core f g w)
-    (not_repeats _ l p (and_repeats _ _ l p (not_repeats (Holds w f) l p (truth_repeats w l p r f)) (not_repeats (Holds w g) l p (truth_repeats w l p r g))))
+    (not_repeats _ l p (and_repeats _ _ l p (not_repeats (Holds w f) l p (truth_repeats w l p r f))
+    (not_repeats (Holds w g) l p (truth_repeats w l p r g))))
 truth_repeats w l p r (form.Implies f g) =
     repeats_along (Holds w (form.Implies f g)) (Holds w (form.Not (form.And f (form.Not g)))) l p (implies_is_core f g w)
     (not_repeats _ l p (and_repeats (Holds w f) _ l p (truth_repeats w l p r f) (not_repeats (Holds w g) l p (truth_repeats w l p r g))))
@@ -77,7 +80,8 @@ truth_repeats w l p r (form.Then f) = next_repeats (Holds w f) l p (truth_repeat
 truth_repeats w l p r (form.Until f g) = until_repeats (Holds w f) (Holds w g) l p (truth_repeats w l p r f) (truth_repeats w l p r g)
 truth_repeats w l p r (form.Releases f g) =
     repeats_along (Holds w (form.Releases f g)) (Holds w (form.Not (form.Until (form.Not f) (form.Not g)))) l p (releases_is_core f g w)
-    (not_repeats _ l p (until_repeats _ _ l p (not_repeats (Holds w f) l p (truth_repeats w l p r f)) (not_repeats (Holds w g) l p (truth_repeats w l p r g))))
+    (not_repeats _ l p (until_repeats _ _ l p (not_repeats (Holds w f) l p (truth_repeats w l p r f))
+    (not_repeats (Holds w g) l p (truth_repeats w l p r g))))
 truth_repeats w l p r (form.Future f) =
     repeats_along (Holds w (form.Future f)) (Holds w (form.Until form.True f)) l p (future_is_core f w)
     (until_repeats (Holds w form.True) _ l p (λ i le. (λ h. h, λ h. h)) (truth_repeats w l p r f))
@@ -93,13 +97,13 @@ truth_recurs w l p r f i le = truth_repeats w l p r f i le
 
 -- ---- places of a lasso
 
-pub place_before : (n l i : ℕ) → i < n → place n l i ≡ i
+pub place_before : (n l i : ℕ) → i < n → lasso_place n l i ≡ i
 place_before n l i h = cond-true (ltb i n) i (l + (i - l) % (n - l)) (lt-ltb i n h)
 
-pub place_past : (n l i : ℕ) → n ≤ i → place n l i ≡ l + (i - l) % (n - l)
+pub place_past : (n l i : ℕ) → n ≤ i → lasso_place n l i ≡ l + (i - l) % (n - l)
 place_past n l i h = cond-false (ltb i n) i (l + (i - l) % (n - l)) (le-ltb i n h)
 
-pub place_in_loop : (n l i : ℕ) → l < n → l ≤ i → place n l i ≡ l + (i - l) % (n - l)
+pub place_in_loop : (n l i : ℕ) → l < n → l ≤ i → lasso_place n l i ≡ l + (i - l) % (n - l)
 place_in_loop n l i lt le =
     elim (cases_lt i n) [
       | inl h ↦
@@ -110,7 +114,7 @@ place_in_loop n l i lt le =
       | inr h ↦ place_past n l i h
     ]
 
-pub place_recurs : (n l i : ℕ) → l < n → l ≤ i → place n l (i + (n - l)) ≡ place n l i
+pub place_recurs : (n l i : ℕ) → l < n → l ≤ i → lasso_place n l (i + (n - l)) ≡ lasso_place n l i
 place_recurs n l i lt le =
     let e : (i + (n - l)) - l ≡ (i - l) + (n - l) = omega arith in
     place_in_loop n l (i + (n - l)) lt (omega arith)
@@ -125,7 +129,7 @@ pub lasso_truth_recurs : LassoTruthRecurs
 lasso_truth_recurs states l lt f i le =
     truth_repeats (word states l) l (length states - l) (words_recur states l lt) f i le
 
-pub place_end : (n l i : ℕ) → l < n → i ≡ n → place n l i ≡ l
+pub place_end : (n l i : ℕ) → l < n → i ≡ n → lasso_place n l i ≡ l
 place_end n l i lt e =
     let turn : i ≡ l + (n - l) = omega arith in
-    ap (place n l) turn ∙ (place_recurs n l l lt (omega arith) ∙ place_before n l l lt)
+    ap (lasso_place n l) turn ∙ (place_recurs n l l lt (omega arith) ∙ place_before n l l lt)

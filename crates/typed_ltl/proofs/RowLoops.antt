@@ -1,12 +1,12 @@
 use Rattle.std.proofs.Common.{◌≡◌, ℕ, suc, ◌+◌, ◌-◌, ◌<◌, ◌≤◌, Bool, false, not, ◌&&◌, ◌||◌, List, [], length, get_or, set, sym, ap, ◌∙◌, subst, arith}
 use Rattle.std.proofs.lemmas.List.{get_or_past, get_or_default}
 use Rattle.port_types.specs.declared.types.Value.{Value}
-use Rattle.typed_ltl.specs.Formulas.{Test}
-use Rattle.typed_ltl.specs.Traces.{assignment, place, word}
-use Rattle.typed_ltl.specs.Truth.{test, TestFits}
-use Rattle.typed_ltl.specs.Rows.{test_row, not_row, and_row, iff_row, then_row, until_back}
+use Rattle.typed_ltl.specs.Formulas.{Proposition}
+use Rattle.typed_ltl.specs.Traces.{assignment, lasso_place, word}
+use Rattle.typed_ltl.specs.Truth.{proposition_truth, IsModerateProposition}
+use Rattle.typed_ltl.specs.Rows.{proposition_row, not_row, and_row, iff_row, then_row, until_back}
 use Rattle.typed_ltl.proofs.Periodicity.{place_before}
-use Rattle.typed_ltl.proofs.RowPlaces.{length_not, at_not, length_and, at_and, length_iff, at_iff, length_shifted, at_shifted, length_until, at_until, length_test, test_on_word}
+use Rattle.typed_ltl.proofs.RowPlaces.{length_not, at_not, length_and, at_and, length_iff, at_iff, length_successor_row, at_successor_row, length_until, at_until, length_proposition_row, proposition_on_word}
 use Rattle.typed_ltl.proofs.RowSteps.{Filled, Filled-more, Filled-end, Settled, Settled-more, Settled-end}
 
 -- One step and the end of each loop over rows.
@@ -20,61 +20,71 @@ negate_more xs ys i lt f =
 pub negate_end : (xs ys : List Bool) (n : ℕ) → n ≡ length xs → Filled (not_row xs) xs ys n → ys ≡ not_row xs
 negate_end xs ys n e f = Filled-end (not_row xs) xs ys n (length_not xs) e f
 
-pub conjoin_more : (xs gs ys : List Bool) (i : ℕ) → length gs ≡ length xs → i < length xs → Filled (and_row xs gs) xs ys i
+pub conjoin_more : (xs gs ys : List Bool) (i : ℕ) → length gs ≡ length xs → i < length xs
+    → Filled (and_row xs gs) xs ys i
     → Filled (and_row xs gs) xs (set ys i (get_or ys i false && get_or gs i false)) (i + 1)
 conjoin_more xs gs ys i len lt f =
     Filled-more (and_row xs gs) xs ys i (get_or ys i false && get_or gs i false) lt f
     (ap (λ x. x && get_or gs i false) (f.rest i (omega arith)) ∙ sym (at_and xs gs i (sym len) lt))
 
-pub conjoin_end : (xs gs ys : List Bool) (n : ℕ) → length gs ≡ length xs → n ≡ length xs → Filled (and_row xs gs) xs ys n → ys ≡ and_row xs gs
+pub conjoin_end : (xs gs ys : List Bool) (n : ℕ) → length gs ≡ length xs → n ≡ length xs
+    → Filled (and_row xs gs) xs ys n → ys ≡ and_row xs gs
 conjoin_end xs gs ys n len e f = Filled-end (and_row xs gs) xs ys n (length_and xs gs (sym len)) e f
 
-pub equate_more : (xs gs ys : List Bool) (i : ℕ) → length gs ≡ length xs → i < length xs → Filled (iff_row xs gs) xs ys i
+pub equate_more : (xs gs ys : List Bool) (i : ℕ) → length gs ≡ length xs → i < length xs
+    → Filled (iff_row xs gs) xs ys i
     → Filled (iff_row xs gs) xs
     (set ys i ((get_or ys i false && get_or gs i false) || (not (get_or ys i false) && not (get_or gs i false)))) (i + 1)
 equate_more xs gs ys i len lt f =
     Filled-more (iff_row xs gs) xs ys i ((get_or ys i false && get_or gs i false) || (not (get_or ys i false) && not (get_or gs i false))) lt f
     (ap (λ x. (x && get_or gs i false) || (not x && not (get_or gs i false))) (f.rest i (omega arith)) ∙ sym (at_iff xs gs i (sym len) lt))
 
-pub equate_end : (xs gs ys : List Bool) (n : ℕ) → length gs ≡ length xs → n ≡ length xs → Filled (iff_row xs gs) xs ys n → ys ≡ iff_row xs gs
+pub equate_end : (xs gs ys : List Bool) (n : ℕ) → length gs ≡ length xs → n ≡ length xs
+    → Filled (iff_row xs gs) xs ys n → ys ≡ iff_row xs gs
 equate_end xs gs ys n len e f = Filled-end (iff_row xs gs) xs ys n (length_iff xs gs (sym len)) e f
 
 -- what a read of a list gives is its element, at any default
-read_at : (states : List (List Value)) (i : ℕ) (x : List Value) → i < length states → x ≡ get_or states i x → x ≡ get_or states i []
+read_at : (states : List (List Value)) (i : ℕ) (x : List Value) → i < length states → x ≡ get_or states i x
+    → x ≡ get_or states i []
 read_at states i x lt e = e ∙ get_or_default states i x [] lt
 
-pub atom_fits : (states : List (List Value)) (l : ℕ) (a : Test) (i next : ℕ) (now after : List Value) → i < length states → next < length states
-    → next ≡ place (length states) l (i + 1) → now ≡ get_or states i now → after ≡ get_or states next after
-    → ((k : ℕ) → TestFits (word states l k) (word states l (k + 1)) a) → TestFits (assignment now) (assignment after) a
+pub atom_fits : (states : List (List Value)) (l : ℕ) (a : Proposition) (i next : ℕ) (now after : List Value)
+    → i < length states → next < length states
+    → next ≡ lasso_place (length states) l (i + 1) → now ≡ get_or states i now → after ≡ get_or states next after
+    → ((k : ℕ) → IsModerateProposition (word states l k) (word states l (k + 1)) a)
+    → IsModerateProposition (assignment now) (assignment after) a
 atom_fits states l a i next now after lt within e en ea fits =
-    let now_is : get_or states (place (length states) l i) [] ≡ now =
+    let now_is : get_or states (lasso_place (length states) l i) [] ≡ now =
     ap (λ k. get_or states k []) (place_before (length states) l i lt) ∙ sym (read_at states i now lt en) in
-    let after_is : get_or states (place (length states) l (i + 1)) [] ≡ after =
+    let after_is : get_or states (lasso_place (length states) l (i + 1)) [] ≡ after =
     ap (λ k. get_or states k []) (sym e) ∙ sym (read_at states next after within ea) in
-    subst (λ x. TestFits (assignment now) (assignment x) a) after_is
-    (subst (λ x. TestFits (assignment x) (word states l (i + 1)) a) now_is (fits i))
+    subst (λ x. IsModerateProposition (assignment now) (assignment x) a) after_is
+    (subst (λ x. IsModerateProposition (assignment x) (word states l (i + 1)) a) now_is (fits i))
 
-pub atom_more : (states : List (List Value)) (l : ℕ) (a : Test) (i next : ℕ) (now after : List Value) (xs ys : List Bool) (y : Bool)
+pub atom_more : (states : List (List Value)) (l : ℕ) (a : Proposition) (i next : ℕ) (now after : List Value)
+    (xs ys : List Bool) (y : Bool)
     → l < length states → length xs ≡ length states → i < length states → next < length states
-    → next ≡ place (length states) l (i + 1) → now ≡ get_or states i now → after ≡ get_or states next after
-    → y ≡ test (assignment now) (assignment after) a
-    → Filled (test_row a (get_or states l []) states) xs ys i
-    → Filled (test_row a (get_or states l []) states) xs (set ys i y) (i + 1)
+    → next ≡ lasso_place (length states) l (i + 1) → now ≡ get_or states i now → after ≡ get_or states next after
+    → y ≡ proposition_truth (assignment now) (assignment after) a
+    → Filled (proposition_row a (get_or states l []) states) xs ys i
+    → Filled (proposition_row a (get_or states l []) states) xs (set ys i y) (i + 1)
 atom_more states l a i next now after xs ys y inside len lt within e en ea ey f =
-    let now_is : now ≡ get_or states (place (length states) l i) [] =
+    let now_is : now ≡ get_or states (lasso_place (length states) l i) [] =
     read_at states i now lt en ∙ ap (λ k. get_or states k []) (sym (place_before (length states) l i lt)) in
-    let after_is : after ≡ get_or states (place (length states) l (i + 1)) [] =
+    let after_is : after ≡ get_or states (lasso_place (length states) l (i + 1)) [] =
     read_at states next after within ea ∙ ap (λ k. get_or states k []) e in
-    Filled-more (test_row a (get_or states l []) states) xs ys i y (omega (arith, len)) f
+    Filled-more (proposition_row a (get_or states l []) states) xs ys i y (omega (arith, len)) f
     (ey
-    ∙ (ap (λ x. test (assignment x) (assignment after) a) now_is
-    ∙ (ap (λ x. test (word states l i) (assignment x) a) after_is
-    ∙ sym (test_on_word states l a inside i lt))))
+    ∙ (ap (λ x. proposition_truth (assignment x) (assignment after) a) now_is
+    ∙ (ap (λ x. proposition_truth (word states l i) (assignment x) a) after_is
+    ∙ sym (proposition_on_word states l a inside i lt))))
 
-pub atom_end : (states : List (List Value)) (l : ℕ) (a : Test) (xs ys : List Bool) (n : ℕ) → length xs ≡ length states → n ≡ length xs
-    → Filled (test_row a (get_or states l []) states) xs ys n → ys ≡ test_row a (get_or states l []) states
+pub atom_end : (states : List (List Value)) (l : ℕ) (a : Proposition) (xs ys : List Bool) (n : ℕ)
+    → length xs ≡ length states → n ≡ length xs
+    → Filled (proposition_row a (get_or states l []) states) xs ys n
+    → ys ≡ proposition_row a (get_or states l []) states
 atom_end states l a xs ys n len e f =
-    Filled-end (test_row a (get_or states l []) states) xs ys n (length_test a (get_or states l []) states ∙ sym len) e f
+    Filled-end (proposition_row a (get_or states l []) states) xs ys n (length_proposition_row a (get_or states l []) states ∙ sym len) e f
 
 pub shift_more : (l : ℕ) (xs ys : List Bool) (j : ℕ) (later : Bool) → 0 < j → j ≤ length xs
     → Settled (then_row l xs) xs ys j → later ≡ get_or xs j (get_or xs l false)
@@ -82,7 +92,7 @@ pub shift_more : (l : ℕ) (xs ys : List Bool) (j : ℕ) (later : Bool) → 0 < 
 shift_more l xs ys j later some le s e =
     let next : suc (j - 1) ≡ j = omega arith in
     Settled-more (then_row l xs) xs ys (j - 1) j later (omega arith) le s
-    (e ∙ (ap (λ k. get_or xs k (get_or xs l false)) (sym next) ∙ sym (at_shifted (get_or xs l false) xs (j - 1) (omega arith))))
+    (e ∙ (ap (λ k. get_or xs k (get_or xs l false)) (sym next) ∙ sym (at_successor_row (get_or xs l false) xs (j - 1) (omega arith))))
 
 pub shift_later : (l : ℕ) (xs ys : List Bool) (j : ℕ) → 0 < j → j ≤ length xs → Settled (then_row l xs) xs ys j
     → get_or ys (j - 1) false ≡ get_or xs (j - 1) (get_or xs l false)
@@ -92,14 +102,15 @@ shift_later l xs ys j some le s =
 pub shift_end : (l : ℕ) (xs ys : List Bool) (i : ℕ) → i ≤ 0 → Settled (then_row l xs) xs ys i → ys ≡ then_row l xs
 shift_end l xs ys i le s =
     let none : i ≡ 0 = omega arith in
-    Settled-end (then_row l xs) xs ys (length_shifted (get_or xs l false) xs) (subst (Settled (then_row l xs) xs ys) none s)
+    Settled-end (then_row l xs) xs ys (length_successor_row (get_or xs l false) xs) (subst (Settled (then_row l xs) xs ys) none s)
 
 pub until_start : (after : Bool) (fs gs : List Bool) → length gs ≡ length fs
     → after ≡ get_or (until_back after fs gs) (length fs) after
 until_start after fs gs len =
     sym (get_or_past (until_back after fs gs) (length fs) after (omega (arith, length_until after fs gs (sym len))))
 
-pub until_step : (after : Bool) (fs gs : List Bool) (j : ℕ) (holds : Bool) → length gs ≡ length fs → 0 < j → j ≤ length fs
+pub until_step : (after : Bool) (fs gs : List Bool) (j : ℕ) (holds : Bool) → length gs ≡ length fs → 0 < j
+    → j ≤ length fs
     → holds ≡ get_or (until_back after fs gs) j after
     → (get_or gs (j - 1) false || (get_or fs (j - 1) false && holds)) ≡ get_or (until_back after fs gs) (j - 1) after
 until_step after fs gs j holds len some le e =
@@ -107,16 +118,19 @@ until_step after fs gs j holds len some le e =
     ap (λ x. get_or gs (j - 1) false || (get_or fs (j - 1) false && x)) (e ∙ ap (λ k. get_or (until_back after fs gs) k after) next)
     ∙ sym (at_until after fs gs (j - 1) (sym len) (omega arith))
 
-pub until_holds : (after : Bool) (xs gs ys : List Bool) (j : ℕ) (holds : Bool) → length gs ≡ length xs → 0 < j → j ≤ length xs
+pub until_holds : (after : Bool) (xs gs ys : List Bool) (j : ℕ) (holds : Bool) → length gs ≡ length xs → 0 < j
+    → j ≤ length xs
     → Settled (until_back after xs gs) xs ys j → holds ≡ get_or (until_back after xs gs) j after
     → (get_or gs (j - 1) false || (get_or ys (j - 1) false && holds)) ≡ get_or (until_back after xs gs) (j - 1) after
 until_holds after xs gs ys j holds len some le s e =
     ap (λ x. get_or gs (j - 1) false || (x && holds)) (s.rest (j - 1) (omega arith))
     ∙ until_step after xs gs j holds len some le e
 
-pub until_more : (after : Bool) (xs gs ys : List Bool) (j : ℕ) (holds : Bool) → length gs ≡ length xs → 0 < j → j ≤ length xs
+pub until_more : (after : Bool) (xs gs ys : List Bool) (j : ℕ) (holds : Bool) → length gs ≡ length xs → 0 < j
+    → j ≤ length xs
     → Settled (until_back after xs gs) xs ys j → holds ≡ get_or (until_back after xs gs) j after
-    → Settled (until_back after xs gs) xs (set ys (j - 1) (get_or gs (j - 1) false || (get_or ys (j - 1) false && holds))) (j - 1)
+    → Settled (until_back after xs gs) xs
+    (set ys (j - 1) (get_or gs (j - 1) false || (get_or ys (j - 1) false && holds))) (j - 1)
 until_more after xs gs ys j holds len some le s e =
     Settled-more (until_back after xs gs) xs ys (j - 1) j (get_or gs (j - 1) false || (get_or ys (j - 1) false && holds)) (omega arith) le s
     (until_holds after xs gs ys j holds len some le s e

@@ -39,7 +39,8 @@ pub record Settled (R xs ys : List Bool) (i : ℕ) : Type 0 where
 pub Settled-start : (R xs : List Bool) → Settled R xs xs (length xs)
 Settled-start R xs = record { len = refl; done = λ k le lt. absurd (omega arith); rest = λ k lt. refl }
 
-pub Settled-more : (R xs ys : List Bool) (i j : ℕ) (y : Bool) → i + 1 ≡ j → j ≤ length xs → Settled R xs ys j → y ≡ get_or R i false
+pub Settled-more : (R xs ys : List Bool) (i j : ℕ) (y : Bool) → i + 1 ≡ j → j ≤ length xs → Settled R xs ys j
+    → y ≡ get_or R i false
     → Settled R xs (set ys i y) i
 Settled-more R xs ys i j y step le s e = record {
   len = length-set ys i y ∙ s.len;

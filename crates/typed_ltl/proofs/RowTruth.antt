@@ -4,14 +4,14 @@ use Rattle.std.proofs.lemmas.Bool.{and_from, and_parts, cases_lt, not-true, not_
 use Rattle.std.proofs.Math.Logic.{inl, inr}
 use Rattle.port_types.specs.declared.types.Value.{Value}
 use Rattle.typed_ltl.specs.Formulas as form
-use Rattle.typed_ltl.specs.Formulas.{Ltl, Test}
+use Rattle.typed_ltl.specs.Formulas.{Ltl, Proposition}
 use Rattle.typed_ltl.specs.Traces.{word}
-use Rattle.typed_ltl.specs.Truth.{Holds, Reaches, test}
-use Rattle.typed_ltl.specs.Rows.{test_row, not_row, and_row, iff_row, until_back, then_row, until_row, future_row, row}
-use Rattle.typed_ltl.specs.Laws.{RowsAreRight}
+use Rattle.typed_ltl.specs.Truth.{Holds, HoldsUntil, proposition_truth}
+use Rattle.typed_ltl.specs.Rows.{proposition_row, not_row, and_row, iff_row, until_back, then_row, until_row, future_row, truth_row}
+use Rattle.typed_ltl.specs.Rows.{RowsAreRight}
 use Rattle.typed_ltl.proofs.Derived.{or_is_core, implies_is_core, future_is_core, always_is_core, never_is_core, releases_is_core}
 use Rattle.typed_ltl.proofs.Periodicity.{Repeats, until_repeats, truth_repeats, words_recur}
-use Rattle.typed_ltl.proofs.RowPlaces.{length_not, at_not, length_and, at_and, length_iff, at_iff, length_shifted, at_shifted, length_until, at_until, length_test, test_on_word}
+use Rattle.typed_ltl.proofs.RowPlaces.{length_not, at_not, length_and, at_and, length_iff, at_iff, length_successor_row, at_successor_row, length_until, at_until, length_proposition_row, proposition_on_word}
 use Rattle.typed_ltl.proofs.Untils.{Table, Backwards, until_told, until_tells}
 
 -- a row has the truth of P at each of n states
@@ -34,7 +34,8 @@ not_shows n fs P s = record {
       at_not fs i (omega (arith, s.len)) ∙ not_from_false (get_or fs i false) (false_from_ne_true (get_or fs i false) (λ h. np (s.told i lt h)));
 }
 
-and_shows : (n : ℕ) (fs gs : List Bool) (P Q : ℕ → Type 0) → Shows n fs P → Shows n gs Q → Shows n (and_row fs gs) (λ i. P i × Q i)
+and_shows : (n : ℕ) (fs gs : List Bool) (P Q : ℕ → Type 0) → Shows n fs P → Shows n gs Q
+    → Shows n (and_row fs gs) (λ i. P i × Q i)
 and_shows n fs gs P Q s t =
     let e : length fs ≡ length gs = s.len ∙ sym t.len in
     record {
@@ -47,7 +48,8 @@ and_shows n fs gs P Q s t =
     }
 
 iff_cases : (a b : Bool) (P Q : Type 0) → (a ≡ true → P) → (P → a ≡ true) → (b ≡ true → Q) → (Q → b ≡ true)
-    → ((((a && b) || (not a && not b)) ≡ true) → (P → Q) × (Q → P)) × ((P → Q) × (Q → P) → ((a && b) || (not a && not b)) ≡ true)
+    → ((((a && b) || (not a && not b)) ≡ true) → (P → Q) × (Q → P))
+    × ((P → Q) × (Q → P) → ((a && b) || (not a && not b)) ≡ true)
 iff_cases true true P Q ap pa bq qb = (λ h. (λ p. bq refl, λ q. ap refl), λ h. refl)
 iff_cases true false P Q ap pa bq qb =
     (λ h. absurd (let no : ◌≡◌ {A = Bool} false true = h in cc), λ h. let no : false ≡ true = qb (h.0 (ap refl)) in no)
@@ -72,7 +74,8 @@ iff_shows n fs gs P Q s t =
 
 -- the next state of the last one is state l
 next_at : (n l : ℕ) (fs : List Bool) (i : ℕ) → length fs ≡ n → i < n
-    → ((suc i < n) × (get_or fs (suc i) (get_or fs l false) ≡ get_or fs (suc i) false)) ⊎ ((suc i ≡ n) × (get_or fs (suc i) (get_or fs l false) ≡ get_or fs l false))
+    → ((suc i < n) × (get_or fs (suc i) (get_or fs l false) ≡ get_or fs (suc i) false))
+    ⊎ ((suc i ≡ n) × (get_or fs (suc i) (get_or fs l false) ≡ get_or fs l false))
 next_at n l fs i e lt =
     elim (cases_lt (suc i) n) [
       | inl h ↦ inl (h, get_or_default fs (suc i) (get_or fs l false) false (omega (arith, e)))
@@ -82,9 +85,9 @@ next_at n l fs i e lt =
 then_shows : (n l : ℕ) (fs : List Bool) (P : ℕ → Type 0) → l < n → Repeats P l (n - l) → Shows n fs P
     → Shows n (then_row l fs) (λ i. P (i + 1))
 then_shows n l fs P inside r s = record {
-  len = length_shifted (get_or fs l false) fs ∙ s.len;
+  len = length_successor_row (get_or fs l false) fs ∙ s.len;
   told = λ i lt h.
-      let e : get_or fs (suc i) (get_or fs l false) ≡ true = sym (at_shifted (get_or fs l false) fs i (omega (arith, s.len))) ∙ h in
+      let e : get_or fs (suc i) (get_or fs l false) ≡ true = sym (at_successor_row (get_or fs l false) fs i (omega (arith, s.len))) ∙ h in
       let one : suc i ≡ i + 1 = omega arith in
       subst P one (elim (next_at n l fs i s.len lt) [
         | inl h ↦ s.told (suc i) h.0 (sym h.1 ∙ e)
@@ -95,7 +98,7 @@ then_shows n l fs P inside r s = record {
   tells = λ i lt p.
       let one : i + 1 ≡ suc i = omega arith in
       let p' : P (suc i) = subst P one p in
-      at_shifted (get_or fs l false) fs i (omega (arith, s.len)) ∙
+      at_successor_row (get_or fs l false) fs i (omega (arith, s.len)) ∙
       elim (next_at n l fs i s.len lt) [
         | inl h ↦ h.1 ∙ s.tells (suc i) h.0 p'
         | inr h ↦
@@ -118,7 +121,7 @@ backwards n after fs gs len e = record {
 }
 
 until_shows : (n l : ℕ) (fs gs : List Bool) (P Q : ℕ → Type 0) → l < n → Repeats P l (n - l) → Repeats Q l (n - l)
-    → Shows n fs P → Shows n gs Q → Shows n (until_row l fs gs) (Reaches P Q)
+    → Shows n fs P → Shows n gs Q → Shows n (until_row l fs gs) (HoldsUntil P Q)
 until_shows n l fs gs P Q inside rp rq s t =
     let e : length fs ≡ length gs = s.len ∙ sym t.len in
     let after : Bool = get_or (until_back false fs gs) l false in
@@ -158,12 +161,13 @@ false_shows n P none = record {
   tells = λ i lt p. absurd (none i p);
 }
 
-test_shows : (states : List (List Value)) (l : ℕ) (a : Test) → l < length states
-    → Shows (length states) (test_row a (get_or states l []) states) (λ i. test (word states l i) (word states l (i + 1)) a ≡ true)
-test_shows states l a inside = record {
-  len = length_test a (get_or states l []) states;
-  told = λ i lt h. sym (test_on_word states l a inside i lt) ∙ h;
-  tells = λ i lt h. test_on_word states l a inside i lt ∙ h;
+proposition_shows : (states : List (List Value)) (l : ℕ) (a : Proposition) → l < length states
+    → Shows (length states) (proposition_row a (get_or states l []) states)
+    (λ i. proposition_truth (word states l i) (word states l (i + 1)) a ≡ true)
+proposition_shows states l a inside = record {
+  len = length_proposition_row a (get_or states l []) states;
+  told = λ i lt h. sym (proposition_on_word states l a inside i lt) ∙ h;
+  tells = λ i lt h. proposition_on_word states l a inside i lt ∙ h;
 }
 
 shows_along : (n : ℕ) (fs : List Bool) (P Q : ℕ → Type 0) → ((i : ℕ) → P i ↔ Q i) → Shows n fs Q → Shows n fs P
@@ -174,66 +178,75 @@ shows_along n fs P Q e s = record {
 }
 
 future_shows : (n l : ℕ) (fs : List Bool) (T P : ℕ → Type 0) → l < n → ((i : ℕ) → T i) → Repeats P l (n - l)
-    → Shows n fs P → Shows n (future_row l fs) (Reaches T P)
+    → Shows n fs P → Shows n (future_row l fs) (HoldsUntil T P)
 future_shows n l fs T P inside all rp s =
-    subst (λ k. Shows n (until_row l (replicate k true) fs) (Reaches T P)) (sym s.len)
+    subst (λ k. Shows n (until_row l (replicate k true) fs) (HoldsUntil T P)) (sym s.len)
     (until_shows n l (replicate n true) fs T P inside (λ i le. (λ h. all (i + (n - l)), λ h. all i)) rp (true_shows n T all) s)
 
 module _ (states : List (List Value)) (l : ℕ) (inside : l < length states) where
   repeats : (f : Ltl) → Repeats (Holds (word states l) f) l (length states - l)
   repeats f = truth_repeats (word states l) l (length states - l) (words_recur states l inside) f
 
-  pub rows_show : (f : Ltl) → Shows (length states) (row states l f) (Holds (word states l) f)
+  pub rows_show : (f : Ltl) → Shows (length states) (truth_row states l f) (Holds (word states l) f)
   rows_show form.True = true_shows (length states) (Holds (word states l) form.True) (λ i. tt)
   rows_show form.False = false_shows (length states) (Holds (word states l) form.False) (λ i h. h)
-  rows_show (form.Atomic a) = test_shows states l a inside
-  rows_show (form.Not f) = not_shows (length states) (row states l f) (Holds (word states l) f) (rows_show f)
+  rows_show (form.Atomic a) = proposition_shows states l a inside
+  rows_show (form.Not f) = not_shows (length states) (truth_row states l f) (Holds (word states l) f) (rows_show f)
   rows_show (form.And f g) =
-      and_shows (length states) (row states l f) (row states l g) (Holds (word states l) f) (Holds (word states l) g) (rows_show f) (rows_show g)
+      and_shows (length states) (truth_row states l f) (truth_row states l g) (Holds (word states l) f) (Holds (word states l) g) (rows_show f)
+      (rows_show g)
   rows_show (form.Or f g) =
-      shows_along (length states) (row states l (form.Or f g)) (Holds (word states l) (form.Or f g))
+      shows_along (length states) (truth_row states l (form.Or f g)) (Holds (word states l) (form.Or f g))
       (Holds (word states l) (form.Not (form.And (form.Not f) (form.Not g)))) (or_is_core f g (word states l))
-      (not_shows (length states) (and_row (not_row (row states l f)) (not_row (row states l g))) (Holds (word states l) (form.And (form.Not f) (form.Not g)))
-      (and_shows (length states) (not_row (row states l f)) (not_row (row states l g)) (Holds (word states l) (form.Not f)) (Holds (word states l) (form.Not g))
-      (not_shows (length states) (row states l f) (Holds (word states l) f) (rows_show f))
-      (not_shows (length states) (row states l g) (Holds (word states l) g) (rows_show g))))
+      (not_shows (length states) (and_row (not_row (truth_row states l f)) (not_row (truth_row states l g)))
+      (Holds (word states l) (form.And (form.Not f) (form.Not g)))
+      (and_shows (length states) (not_row (truth_row states l f)) (not_row (truth_row states l g)) (Holds (word states l) (form.Not f))
+      (Holds (word states l) (form.Not g))
+      (not_shows (length states) (truth_row states l f) (Holds (word states l) f) (rows_show f))
+      (not_shows (length states) (truth_row states l g) (Holds (word states l) g) (rows_show g))))
   rows_show (form.Implies f g) =
-      shows_along (length states) (row states l (form.Implies f g)) (Holds (word states l) (form.Implies f g))
+      shows_along (length states) (truth_row states l (form.Implies f g)) (Holds (word states l) (form.Implies f g))
       (Holds (word states l) (form.Not (form.And f (form.Not g)))) (implies_is_core f g (word states l))
-      (not_shows (length states) (and_row (row states l f) (not_row (row states l g))) (Holds (word states l) (form.And f (form.Not g)))
-      (and_shows (length states) (row states l f) (not_row (row states l g)) (Holds (word states l) f) (Holds (word states l) (form.Not g))
+      (not_shows (length states) (and_row (truth_row states l f) (not_row (truth_row states l g))) (Holds (word states l) (form.And f (form.Not g)))
+      (and_shows (length states) (truth_row states l f) (not_row (truth_row states l g)) (Holds (word states l) f) (Holds (word states l) (form.Not g))
       (rows_show f)
-      (not_shows (length states) (row states l g) (Holds (word states l) g) (rows_show g))))
+      (not_shows (length states) (truth_row states l g) (Holds (word states l) g) (rows_show g))))
   rows_show (form.Iff f g) =
-      iff_shows (length states) (row states l f) (row states l g) (Holds (word states l) f) (Holds (word states l) g) (rows_show f) (rows_show g)
+      iff_shows (length states) (truth_row states l f) (truth_row states l g) (Holds (word states l) f) (Holds (word states l) g) (rows_show f)
+      (rows_show g)
   rows_show (form.Then f) =
-      then_shows (length states) l (row states l f) (Holds (word states l) f) inside (repeats f) (rows_show f)
+      then_shows (length states) l (truth_row states l f) (Holds (word states l) f) inside (repeats f) (rows_show f)
   rows_show (form.Until f g) =
-      until_shows (length states) l (row states l f) (row states l g) (Holds (word states l) f) (Holds (word states l) g) inside
+      until_shows (length states) l (truth_row states l f) (truth_row states l g) (Holds (word states l) f) (Holds (word states l) g) inside
       (repeats f) (repeats g) (rows_show f) (rows_show g)
   rows_show (form.Releases f g) =
-      shows_along (length states) (row states l (form.Releases f g)) (Holds (word states l) (form.Releases f g))
+      shows_along (length states) (truth_row states l (form.Releases f g)) (Holds (word states l) (form.Releases f g))
       (Holds (word states l) (form.Not (form.Until (form.Not f) (form.Not g)))) (releases_is_core f g (word states l))
-      (not_shows (length states) (until_row l (not_row (row states l f)) (not_row (row states l g))) (Holds (word states l) (form.Until (form.Not f) (form.Not g)))
-      (until_shows (length states) l (not_row (row states l f)) (not_row (row states l g)) (Holds (word states l) (form.Not f)) (Holds (word states l) (form.Not g)) inside
+      (not_shows (length states) (until_row l (not_row (truth_row states l f)) (not_row (truth_row states l g)))
+      (Holds (word states l) (form.Until (form.Not f) (form.Not g)))
+      (until_shows (length states) l (not_row (truth_row states l f)) (not_row (truth_row states l g)) (Holds (word states l) (form.Not f))
+      (Holds (word states l) (form.Not g)) inside
       (repeats (form.Not f)) (repeats (form.Not g))
-      (not_shows (length states) (row states l f) (Holds (word states l) f) (rows_show f))
-      (not_shows (length states) (row states l g) (Holds (word states l) g) (rows_show g))))
+      (not_shows (length states) (truth_row states l f) (Holds (word states l) f) (rows_show f))
+      (not_shows (length states) (truth_row states l g) (Holds (word states l) g) (rows_show g))))
   rows_show (form.Future f) =
-      shows_along (length states) (row states l (form.Future f)) (Holds (word states l) (form.Future f))
+      shows_along (length states) (truth_row states l (form.Future f)) (Holds (word states l) (form.Future f))
       (Holds (word states l) (form.Until form.True f)) (future_is_core f (word states l))
-      (future_shows (length states) l (row states l f) (Holds (word states l) form.True) (Holds (word states l) f) inside (λ i. tt) (repeats f) (rows_show f))
+      (future_shows (length states) l (truth_row states l f) (Holds (word states l) form.True) (Holds (word states l) f) inside (λ i. tt) (repeats f)
+      (rows_show f))
   rows_show (form.Always f) =
-      shows_along (length states) (row states l (form.Always f)) (Holds (word states l) (form.Always f))
+      shows_along (length states) (truth_row states l (form.Always f)) (Holds (word states l) (form.Always f))
       (Holds (word states l) (form.Not (form.Until form.True (form.Not f)))) (always_is_core f (word states l))
-      (not_shows (length states) (future_row l (not_row (row states l f))) (Holds (word states l) (form.Until form.True (form.Not f)))
-      (future_shows (length states) l (not_row (row states l f)) (Holds (word states l) form.True) (Holds (word states l) (form.Not f)) inside (λ i. tt) (repeats (form.Not f))
-      (not_shows (length states) (row states l f) (Holds (word states l) f) (rows_show f))))
+      (not_shows (length states) (future_row l (not_row (truth_row states l f))) (Holds (word states l) (form.Until form.True (form.Not f)))
+      (future_shows (length states) l (not_row (truth_row states l f)) (Holds (word states l) form.True) (Holds (word states l) (form.Not f)) inside
+      (λ i. tt) (repeats (form.Not f))
+      (not_shows (length states) (truth_row states l f) (Holds (word states l) f) (rows_show f))))
   rows_show (form.Never f) =
-      shows_along (length states) (row states l (form.Never f)) (Holds (word states l) (form.Never f))
+      shows_along (length states) (truth_row states l (form.Never f)) (Holds (word states l) (form.Never f))
       (Holds (word states l) (form.Not (form.Until form.True f))) (never_is_core f (word states l))
-      (not_shows (length states) (future_row l (row states l f)) (Holds (word states l) (form.Until form.True f))
-      (future_shows (length states) l (row states l f) (Holds (word states l) form.True) (Holds (word states l) f) inside (λ i. tt) (repeats f) (rows_show f)))
+      (not_shows (length states) (future_row l (truth_row states l f)) (Holds (word states l) (form.Until form.True f))
+      (future_shows (length states) l (truth_row states l f) (Holds (word states l) form.True) (Holds (word states l) f) inside (λ i. tt) (repeats f)
+      (rows_show f)))
 
 pub rows_are_right : RowsAreRight
 rows_are_right states l inside f i lt =

@@ -1,7 +1,7 @@
 use Rattle.std.proofs.Common.{◌≡◌, ◌+◌, Bool, true, false, refl}
 use Rattle.typed_ltl.specs.Formulas as form
 use Rattle.typed_ltl.specs.Formulas.{Ltl}
-use Rattle.typed_ltl.specs.Truth.{test}
+use Rattle.typed_ltl.specs.Truth.{proposition_truth}
 use Rattle.typed_ltl.specs.Laws.{TruthIsStable}
 
 -- "P equals its double negation"
@@ -15,7 +15,7 @@ bool_stable false nn = absurd (nn (λ e. cc))
 pub stable : TruthIsStable
 stable w form.True i nn = tt
 stable w form.False i nn = nn (λ h. h)
-stable w (form.Atomic a) i nn = bool_stable (test (w i) (w (i + 1)) a) nn
+stable w (form.Atomic a) i nn = bool_stable (proposition_truth (w i) (w (i + 1)) a) nn
 stable w (form.Not f) i nn = λ h. nn (λ n. n h)
 stable w (form.And f g) i nn = (stable w f i (λ n. nn (λ h. n h.0)), stable w g i (λ n. nn (λ h. n h.1)))
 stable w (form.Or f g) i nn = λ n m. nn (λ h. h n m)

@@ -1,7 +1,7 @@
 use Rattle.std.proofs.Common.{◌≡◌, ℕ, zero, suc, ◌+◌, ◌-◌, ◌<◌, ◌≤◌, Bool, true, false, ◌&&◌, ◌||◌, sym, ap, ◌∙◌, subst, arith}
 use Rattle.std.proofs.lemmas.Bool.{or_left, or_right, and_from, and_parts, or_cases, cases_lt, true_from_ne_false}
 use Rattle.std.proofs.Math.Logic.{inl, inr}
-use Rattle.typed_ltl.specs.Truth.{Throughout, Reaches}
+use Rattle.typed_ltl.specs.Truth.{Throughout, HoldsUntil}
 use Rattle.typed_ltl.proofs.Periodicity.{Repeats}
 
 -- a table of the truth values of P below n
@@ -13,10 +13,10 @@ pub record Table (n : ℕ) (f : ℕ → Bool) (P : ℕ → Type 0) : Type 0 wher
 pub record Backwards (n : ℕ) (f g u : ℕ → Bool) : Type 0 where
   pub step : (i : ℕ) → i < n → u i ≡ (g i || (f i && u (i + 1)))
 
-reaches_here : (P Q : ℕ → Type 0) (i : ℕ) → Q i → Reaches P Q i
+reaches_here : (P Q : ℕ → Type 0) (i : ℕ) → Q i → HoldsUntil P Q i
 reaches_here P Q i q none = none i (omega arith) q (λ k lo hi. absurd (omega arith))
 
-reaches_later : (P Q : ℕ → Type 0) (i : ℕ) → P i → Reaches P Q (i + 1) → Reaches P Q i
+reaches_later : (P Q : ℕ → Type 0) (i : ℕ) → P i → HoldsUntil P Q (i + 1) → HoldsUntil P Q i
 reaches_later P Q i p r none = r (λ j le q t. none j (omega arith) q (λ k lo hi.
     elim (cases_lt i k) [
       | inl h ↦ t k (omega arith) hi
@@ -24,10 +24,10 @@ reaches_later P Q i p r none = r (λ j le q t. none j (omega arith) q (λ k lo h
     ]))
 
 module _ (P Q : ℕ → Type 0) (n : ℕ) (f g u : ℕ → Bool) (fs : Table n f P) (gs : Table n g Q) (back : Backwards n f g u) where
-  pub back_told : (u n ≡ true → Reaches P Q n) → (d i : ℕ) → i + d ≡ n → u i ≡ true → Reaches P Q i
+  pub back_told : (u n ≡ true → HoldsUntil P Q n) → (d i : ℕ) → i + d ≡ n → u i ≡ true → HoldsUntil P Q i
   back_told end zero i e h =
       let e' : i ≡ n = omega arith in
-      subst (Reaches P Q) (sym e') (end (ap u (sym e') ∙ h))
+      subst (HoldsUntil P Q) (sym e') (end (ap u (sym e') ∙ h))
   back_told end (suc d) i e h =
       let lt : i < n = omega arith in
       let now : (g i || (f i && u (i + 1))) ≡ true = sym (back.step i lt) ∙ h in
@@ -59,14 +59,14 @@ module _ (P Q : ℕ → Type 0) (n : ℕ) (f g u : ℕ → Bool) (fs : Table n f
 module _ (P Q : ℕ → Type 0) (n l : ℕ) (f g u v : ℕ → Bool) (fs : Table n f P) (gs : Table n g Q)
     (first : Backwards n f g u) (second : Backwards n f g v) (inside : l < n)
     (starts : u n ≡ false) (goes_on : v n ≡ u l)
-    (rp : Repeats P l (n - l)) (rq : Repeats Q l (n - l)) (ru : Repeats (Reaches P Q) l (n - l)) where
+    (rp : Repeats P l (n - l)) (rq : Repeats Q l (n - l)) (ru : Repeats (HoldsUntil P Q) l (n - l)) where
   round : l + (n - l) ≡ n
   round = omega arith
 
-  first_told : u l ≡ true → Reaches P Q n
+  first_told : u l ≡ true → HoldsUntil P Q n
   first_told h =
-      let at_l : Reaches P Q l = back_told P Q n f g u fs gs first (λ e. cc) (n - l) l round h in
-      subst (Reaches P Q) round ((ru l (omega arith)).0 at_l)
+      let at_l : HoldsUntil P Q l = back_told P Q n f g u fs gs first (λ e. cc) (n - l) l round h in
+      subst (HoldsUntil P Q) round ((ru l (omega arith)).0 at_l)
 
   -- a witness behind the end is found by the first pass: it moves back by one round at a time
   first_tells : (m j : ℕ) → j ≤ m → n ≤ j → Q j → Throughout P n j → u l ≡ true
@@ -80,11 +80,11 @@ module _ (P Q : ℕ → Type 0) (n l : ℕ) (f g u v : ℕ → Bool) (fs : Table
         | inr h ↦ first_tells m (j - (n - l)) (omega arith) h q' (λ k low high. t' k (omega arith) high)
       ]
 
-  pub until_told : (i : ℕ) → i < n → v i ≡ true → Reaches P Q i
+  pub until_told : (i : ℕ) → i < n → v i ≡ true → HoldsUntil P Q i
   until_told i lt h =
       back_told P Q n f g v fs gs second (λ e. first_told (sym goes_on ∙ e)) (n - i) i (omega arith) h
 
-  pub until_tells : (i : ℕ) → i < n → Reaches P Q i → v i ≡ true
+  pub until_tells : (i : ℕ) → i < n → HoldsUntil P Q i → v i ≡ true
   until_tells i lt r = true_from_ne_false (v i) (λ no. r (λ j le q t.
       let yes : v i ≡ true = elim (cases_lt j n) [
         | inl h ↦ back_tells P Q n f g v fs gs second (j - i) i j (omega arith) h q t

@@ -1,3 +1,5 @@
+-- What terms, picks, atoms and formulas mean: plain inductive types, over which truth is defined by
+-- cases. A port is a number, and a truth value tells whether it is read in the next valuation.
 use Rattle.std.specs.Prelude.{ℕ, ℤ, Bool, List}
 use Rattle.typed_ltl.specs.declared.term.Term.{Term, fold-Term}
 use Rattle.typed_ltl.specs.declared.term.Term.TheOpen.{Term-F}
@@ -7,9 +9,6 @@ use Rattle.typed_ltl.specs.declared.atom.Atom.{Atom}
 use Rattle.typed_ltl.specs.declared.atom.Atom.TheVariants as atom
 use Rattle.typed_ltl.specs.declared.formula.Formula.{Formula, fold-Formula}
 use Rattle.typed_ltl.specs.declared.formula.Formula.TheOpen.{Formula-F}
-
--- What terms, picks, atoms and formulas mean: plain inductive types, over which truth is defined by
--- cases. A port is a number, and a truth value tells whether it is read in the next valuation.
 
 -- a whole number that depends on a valuation and the next one
 pub data Number : Type 0 where
@@ -39,24 +38,24 @@ choice_of (pick.Name n) = Named n
 choice_of (pick.Port p next) = NameAt p.0 next
 
 -- a fact about a valuation and the next one
-pub data Test : Type 0 where
-  TruthAt : ℕ → Bool → Test
-  Equals : Number → Number → Test
-  AtMost : Number → Number → Test
-  SameName : Choice → Choice → Test
+pub data Proposition : Type 0 where
+  TruthAt : ℕ → Bool → Proposition
+  Equals : Number → Number → Proposition
+  AtMost : Number → Number → Proposition
+  SameName : Choice → Choice → Proposition
 
-abbrev pub test_of : Atom → Test
-test_of (atom.Port p next) = TruthAt p.0 next
-test_of (atom.Equal a b) = Equals (number_of a) (number_of b)
-test_of (atom.AtMost a b) = AtMost (number_of a) (number_of b)
-test_of (atom.Same a b) = SameName (choice_of a) (choice_of b)
+abbrev pub proposition_of : Atom → Proposition
+proposition_of (atom.Port p next) = TruthAt p.0 next
+proposition_of (atom.Equal a b) = Equals (number_of a) (number_of b)
+proposition_of (atom.AtMost a b) = AtMost (number_of a) (number_of b)
+proposition_of (atom.Same a b) = SameName (choice_of a) (choice_of b)
 
 -- a formula of linear temporal logic (Pnueli, The Temporal Logic of Programs, 1977; the further forms
 -- are those of Manna and Pnueli, The Temporal Logic of Reactive and Concurrent Systems, 1992)
 pub data Ltl : Type 0 where
   True : Ltl
   False : Ltl
-  Atomic : Test → Ltl
+  Atomic : Proposition → Ltl
   Not : Ltl → Ltl
   And : Ltl → Ltl → Ltl
   Or : Ltl → Ltl → Ltl
@@ -72,7 +71,7 @@ pub data Ltl : Type 0 where
 abbrev pub ltl_node : Formula-F Ltl → Ltl
 ltl_node Formula-F.True = True
 ltl_node Formula-F.False = False
-ltl_node (Formula-F.Atom a) = Atomic (test_of a)
+ltl_node (Formula-F.Atom a) = Atomic (proposition_of a)
 ltl_node (Formula-F.Not f) = Not f
 ltl_node (Formula-F.And f g) = And f g
 ltl_node (Formula-F.Or f g) = Or f g

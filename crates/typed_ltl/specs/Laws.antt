@@ -1,10 +1,12 @@
-use Rattle.std.specs.Prelude.{◌≡◌, ℕ, ◌+◌, ◌-◌, ◌<◌, ◌≤◌, ◌↔◌, true, false, List, length, get_or}
+-- Laws of truth: it is stable under double negation, it recurs on ultimately periodic traces (Sistla and Clarke, The
+-- Complexity of Propositional Linear Temporal Logics, 1985), and derived forms have the truth of their core forms
+-- (Manna and Pnueli, The Temporal Logic of Reactive and Concurrent Systems, 1992).
+use Rattle.std.specs.Prelude.{◌≡◌, ℕ, ◌+◌, ◌-◌, ◌<◌, ◌≤◌, ◌↔◌, List, length}
 use Rattle.port_types.specs.declared.types.Value.{Value}
 use Rattle.typed_ltl.specs.Formulas.{Ltl}
 use Rattle.typed_ltl.specs.Formulas as form
 use Rattle.typed_ltl.specs.Traces.{Trace, word}
 use Rattle.typed_ltl.specs.Truth.{Holds}
-use Rattle.typed_ltl.specs.Rows.{row}
 
 -- The truth of each formula equals its double negation.
 abbrev pub TruthIsStable : Type 0
@@ -16,7 +18,8 @@ Recurs w l p = (i : ℕ) → l ≤ i → w (i + p) ≡ w i
 
 -- Where a trace repeats itself, so does the truth of each formula, whether or not it reads next values.
 abbrev pub TruthRecurs : Type 0
-TruthRecurs = (w : Trace) (l p : ℕ) → Recurs w l p → (f : Ltl) (i : ℕ) → l ≤ i → Holds w f i ↔ Holds w f (i + p)
+TruthRecurs = (w : Trace) (l p : ℕ) → Recurs w l p → (f : Ltl) (i : ℕ) → l ≤ i
+    → Holds w f i ↔ Holds w f (i + p)
 
 -- The word of a lasso repeats itself from the loop on, after as many positions as the loop has.
 abbrev pub WordsRecur : Type 0
@@ -25,7 +28,8 @@ WordsRecur = (states : List (List Value)) (loop_at : ℕ) → loop_at < length s
 
 -- So lasso periodicity: from the loop on, truth at i and at i + n - loop_at agree.
 abbrev pub LassoTruthRecurs : Type 0
-LassoTruthRecurs = (states : List (List Value)) (loop_at : ℕ) → loop_at < length states → (f : Ltl) (i : ℕ) → loop_at ≤ i
+LassoTruthRecurs = (states : List (List Value)) (loop_at : ℕ) → loop_at < length states
+    → (f : Ltl) (i : ℕ) → loop_at ≤ i
     → Holds (word states loop_at) f i ↔ Holds (word states loop_at) f (i + (length states - loop_at))
 
 -- Two formulas have the same truth at every position of every trace.
@@ -57,8 +61,3 @@ NeverIsCore = (f : Ltl) → SameTruth (form.Never f) (form.Not (form.Until form.
 
 abbrev pub ReleasesIsCore : Type 0
 ReleasesIsCore = (f g : Ltl) → SameTruth (form.Releases f g) (form.Not (form.Until (form.Not f) (form.Not g)))
-
--- The row of a formula on a lasso has its truth on the word, at each state.
-abbrev pub RowsAreRight : Type 0
-RowsAreRight = (states : List (List Value)) (loop_at : ℕ) → loop_at < length states → (f : Ltl) (i : ℕ) → i < length states
-    → (get_or (row states loop_at f) i false ≡ true) ↔ Holds (word states loop_at) f i

@@ -1,7 +1,12 @@
 pub mod Formulas
 pub mod Traces
 pub mod Truth
+pub mod Laws
+pub mod Sizes
+pub mod Equality
+pub mod HashInput
+pub mod EqualityLaws
+pub mod Cells
 pub mod Rows
 pub mod Operators
-pub mod Laws
 pub mod Samples

@@ -1,10 +1,9 @@
-use Rattle.std.specs.Prelude.{ℕ, ◌+◌, Bool, List}
+-- Serves proofs only. The rows of `specs/Rows.antt` by the forms that the code tells apart.
+use Rattle.std.specs.Prelude.{ℕ, Bool, List}
 use Rattle.typed_ltl.specs.declared.rows.Unary.{Unary}
 use Rattle.typed_ltl.specs.declared.rows.Unary.TheVariants as one
 use Rattle.typed_ltl.specs.declared.rows.Binary.{Binary}
 use Rattle.typed_ltl.specs.declared.rows.Binary.TheVariants as two
-use Rattle.typed_ltl.specs.Formulas.{Ltl}
-use Rattle.typed_ltl.specs.Formulas as form
 use Rattle.typed_ltl.specs.Rows.{not_row, and_row, iff_row, then_row, until_row, future_row}
 
 -- the row of a formula with one part, from that part's row
@@ -23,20 +22,3 @@ binary_row two.Implies l fs gs = not_row (and_row fs (not_row gs))
 binary_row two.Iff l fs gs = iff_row fs gs
 binary_row two.Until l fs gs = until_row l fs gs
 binary_row two.Releases l fs gs = not_row (until_row l (not_row fs) (not_row gs))
-
--- the number of forms in a formula
-abbrev pub size : Ltl → ℕ
-size form.True = 1
-size form.False = 1
-size (form.Atomic a) = 1
-size (form.Not f) = 1 + size f
-size (form.And f g) = 1 + (size f + size g)
-size (form.Or f g) = 1 + (size f + size g)
-size (form.Implies f g) = 1 + (size f + size g)
-size (form.Iff f g) = 1 + (size f + size g)
-size (form.Then f) = 1 + size f
-size (form.Until f g) = 1 + (size f + size g)
-size (form.Releases f g) = 1 + (size f + size g)
-size (form.Future f) = 1 + size f
-size (form.Always f) = 1 + size f
-size (form.Never f) = 1 + size f

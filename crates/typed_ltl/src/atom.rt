@@ -1,3 +1,5 @@
+//! Atoms of formulas: facts on a valuation and the next one. May touch the allocator.
+
 ghost use Rattle.std.specs.Prelude.{◌≡◌, IfOk};
 
 use crate::term::{Pick, Term};
@@ -15,6 +17,7 @@ pub enum Atom {
 }
 
 impl Atom {
+    /// An equal atom.
     pub fn copy(&self, alloc: Global) -> Result<Atom, NoMemory>
         ensures { IfOk result (λ copy. copy ≡ self.now) }
     {
@@ -25,7 +28,7 @@ impl Atom {
             }),
             Atom::Equal(a, b) => Ok(Atom::Equal(a.copy(alloc)?, b.copy(alloc)?)),
             Atom::AtMost(a, b) => Ok(Atom::AtMost(a.copy(alloc)?, b.copy(alloc)?)),
-            Atom::Same(a, b) => Ok(Atom::Same(a.copy(alloc)?, b.copy(alloc)?)),
+            Atom::Same(a, b) => Ok(Atom::Same(a.copy()?, b.copy()?)),
         }
     }
 }

@@ -1,3 +1,5 @@
+//! Formulas: the type, its copies, and one constructor for each form. May touch the allocator.
+
 ghost use Rattle.std.specs.Prelude.{◌≡◌, IfOk};
 ghost use Rattle.typed_ltl.specs.Formulas.{meaning, Ltl};
 
@@ -26,6 +28,7 @@ pub enum Formula {
 }
 
 impl Formula {
+    /// An equal formula.
     pub fn copy(&self, alloc: Global) -> Result<Formula, NoMemory>
         ensures { IfOk result (λ copy. copy ≡ self.now) }
     {

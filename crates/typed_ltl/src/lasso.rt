@@ -1,3 +1,5 @@
+//! Valuations, lists of them, lassos, and what is known of a question. May touch the allocator.
+
 ghost use Rattle.std.specs.Prelude.{◌≡◌, [], ◌∷◌, ◌++◌, ◌<◌, ◌↔◌, IsTrue, IfOk, OnOk, OnErr, length};
 
 use port_types::{NoMemory, Value};
@@ -54,6 +56,7 @@ impl Valuation {
         Ok(())
     }
 
+    /// An equal valuation.
     pub fn copy(&self) -> Result<Valuation, NoMemory>
         ensures { IfOk result (λ copy. copy ≡ self.now) }
     {
@@ -67,7 +70,7 @@ fn copied_values(alloc: Global, values: &[Value]) -> Result<Vec<Value>, NoMemory
 {
     let mut copies = Vec::new(alloc);
     for value in values {
-        copies.push(value.copy(alloc)?)?;
+        copies.push(value.copy()?)?;
     }
     Ok(copies)
 }
@@ -122,6 +125,7 @@ impl Valuations {
         Ok(())
     }
 
+    /// Equal valuations in the same order.
     pub fn copy(&self) -> Result<Valuations, NoMemory>
         ensures { IfOk result (λ copy. copy ≡ self.now) }
     {
@@ -149,6 +153,7 @@ pub struct Lasso {
 }
 
 impl Lasso {
+    /// An equal lasso.
     pub fn copy(&self) -> Result<Lasso, NoMemory>
         ensures { IfOk result (λ copy. copy ≡ self.now) }
     {

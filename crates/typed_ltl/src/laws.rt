@@ -1,4 +1,9 @@
-ghost use Rattle.typed_ltl.specs.Laws.{TruthIsStable, TruthRecurs, WordsRecur, LassoTruthRecurs, FalseIsCore, OrIsCore, ImpliesIsCore, IffIsCore, FutureIsCore, AlwaysIsCore, NeverIsCore, ReleasesIsCore, RowsAreRight};
+//! Laws of truth, as functions without code: a caller that wants a law calls its function. May touch nothing.
+
+ghost use Rattle.typed_ltl.specs.Laws.{TruthIsStable, TruthRecurs, WordsRecur, LassoTruthRecurs};
+ghost use Rattle.typed_ltl.specs.Laws.{FalseIsCore, OrIsCore, ImpliesIsCore, IffIsCore};
+ghost use Rattle.typed_ltl.specs.Laws.{FutureIsCore, AlwaysIsCore, NeverIsCore, ReleasesIsCore};
+ghost use Rattle.typed_ltl.specs.Rows.{RowsAreRight};
 
 /// The truth of each formula at each position of each trace equals its double negation.
 pub fn truth_is_stable()
@@ -25,6 +30,6 @@ pub fn derived_forms()
 {}
 
 /// The row that is computed for a formula on a lasso has its truth on the lasso's word.
-pub fn rows_are_right()
+pub(crate) fn rows_are_right()
     ensures { RowsAreRight }
 {}

@@ -1,3 +1,5 @@
+//! Lists of port types. May touch the allocator.
+
 ghost use Rattle.std.specs.Prelude.{◌≡◌, [], ◌∷◌, ◌++◌, ◌↔◌, IsTrue, IfOk, OnOk, OnErr, length};
 
 use port_types::{NoMemory, PortType};
@@ -54,6 +56,7 @@ impl Ports {
         Ok(())
     }
 
+    /// An equal list.
     pub fn copy(&self) -> Result<Ports, NoMemory>
         ensures { IfOk result (λ copy. copy ≡ self.now) }
     {
@@ -67,7 +70,7 @@ fn copied_types(alloc: Global, types: &[PortType]) -> Result<Vec<PortType>, NoMe
 {
     let mut copies = Vec::new(alloc);
     for kind in types {
-        copies.push(kind.copy(alloc)?)?;
+        copies.push(kind.copy()?)?;
     }
     Ok(copies)
 }

@@ -1,10 +1,11 @@
-//! Rows of truth values, one for each state of a lasso, and what each form of formula makes of them.
+//! Rows of truth values, one for each state of a lasso, and what each form of formula makes of them; the
+//! main functions are `fill_atom`, `settle_unary` and `settle_binary`. May touch nothing.
 
 ghost use Rattle.std.specs.Prelude.{◌≡◌, ℕ, ◌+◌, ◌<◌, ◌≤◌, [], false, length, get_or, replicate};
-ghost use Rattle.typed_ltl.specs.Formulas.{test_of};
-ghost use Rattle.typed_ltl.specs.Traces.{assignment, place, word};
-ghost use Rattle.typed_ltl.specs.Truth.{TestFits};
-ghost use Rattle.typed_ltl.specs.Rows.{test_row, not_row, and_row, iff_row, then_row, until_back, until_row, future_row};
+ghost use Rattle.typed_ltl.specs.Formulas.{proposition_of};
+ghost use Rattle.typed_ltl.specs.Traces.{assignment, lasso_place, word};
+ghost use Rattle.typed_ltl.specs.Truth.{IsModerateProposition};
+ghost use Rattle.typed_ltl.specs.Rows.{proposition_row, not_row, and_row, iff_row, then_row, until_back, until_row, future_row};
 ghost use Rattle.typed_ltl.specs.Operators.{unary_row, binary_row};
 
 use crate::atom::Atom;
@@ -42,7 +43,7 @@ pub(crate) fn fill_constant(truth: bool, cells: &mut [bool])
 fn successor(i: usize, count: usize, loop_at: usize) -> usize
     requires within { i < count }
     requires loop_at { loop_at < count }
-    ensures place { result ≡ place count loop_at (i + 1) }
+    ensures place { result ≡ lasso_place count loop_at (i + 1) }
     ensures within { result < count }
 {
     if i + 1 < count { i + 1 } else { loop_at }
@@ -52,8 +53,9 @@ fn successor(i: usize, count: usize, loop_at: usize) -> usize
 pub(crate) fn fill_atom(atom: &Atom, states: &[Valuation], loop_at: usize, cells: &mut [bool])
     requires loop_at { loop_at < length states.now }
     requires room { length cells.old ≡ length states.now }
-    requires fits { (i : ℕ) → TestFits (word states.now loop_at i) (word states.now loop_at (i + 1)) (test_of atom.now) }
-    ensures { cells.new ≡ test_row (test_of atom.now) (get_or states.now loop_at []) states.now }
+    requires fits { let w = word states.now loop_at in
+        (i : ℕ) → IsModerateProposition (w i) (w (i + 1)) (proposition_of atom.now) }
+    ensures { cells.new ≡ proposition_row (proposition_of atom.now) (get_or states.now loop_at []) states.now }
 {
     for i in 0..states.len() {
         let next = successor(i, states.len(), loop_at);

@@ -1,3 +1,5 @@
+//! Terms, which stand for whole numbers, and picks, which stand for names. May touch the allocator.
+
 ghost use Rattle.std.specs.Prelude.{◌≡◌, IfOk};
 ghost use Rattle.typed_ltl.specs.Formulas.{number_of, Number};
 
@@ -18,6 +20,7 @@ pub enum Term {
 }
 
 impl Term {
+    /// An equal term.
     pub fn copy(&self, alloc: Global) -> Result<Term, NoMemory>
         ensures { IfOk result (λ copy. copy ≡ self.now) }
     {
@@ -74,10 +77,10 @@ pub enum Pick {
 }
 
 impl Pick {
-    pub fn copy(&self, alloc: Global) -> Result<Pick, NoMemory>
+    /// An equal pick.
+    pub fn copy(&self) -> Result<Pick, NoMemory>
         ensures { IfOk result (λ copy. copy ≡ self.now) }
     {
-        let _ = alloc;
         match self {
             Pick::Name(name) => Ok(Pick::Name(name.copy()?)),
             Pick::Port { port, next } => Ok(Pick::Port {

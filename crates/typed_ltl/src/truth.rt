@@ -1,10 +1,12 @@
-//! Truth of a formula on the word of a lasso.
+//! Truth of a formula on the word of a lasso: `holds_on`, in the room of a `Bench`. Only `Bench::new`
+//! may touch the allocator.
 
 ghost use Rattle.std.specs.Prelude.{◌≡◌, ◌+◌, ◌<◌, ◌≤◌, ◌↔◌, ℕ, IsTrue, IfOk, IfSome, length, max, take, replicate, get_or, []};
-ghost use Rattle.typed_ltl.specs.Formulas.{meaning, test_of, Ltl};
+ghost use Rattle.typed_ltl.specs.Formulas.{meaning, proposition_of, Ltl};
 ghost use Rattle.typed_ltl.specs.Traces.{word};
-ghost use Rattle.typed_ltl.specs.Truth.{Holds, Fits};
-ghost use Rattle.typed_ltl.specs.Rows.{row, room, test_row};
+ghost use Rattle.typed_ltl.specs.Truth.{Holds, IsModerateOn};
+ghost use Rattle.typed_ltl.specs.Cells.{cell_count};
+ghost use Rattle.typed_ltl.specs.Rows.{truth_row, proposition_row};
 ghost use Rattle.typed_ltl.specs.Operators.{unary_row, binary_row};
 
 use crate::atom::Atom;
@@ -33,7 +35,7 @@ impl Model for Bench {
 impl Bench {
     /// A bench for the formula and lassos of at most so many positions.
     pub fn new(alloc: Global, f: &Formula, positions: usize) -> Result<Bench, NoMemory>
-        ensures { IfOk result (λ bench. (n : ℕ) → n ≤ positions → room n (meaning f.now) ≤ bench) }
+        ensures { IfOk result (λ bench. (n : ℕ) → n ≤ positions → cell_count n (meaning f.now) ≤ bench) }
     {
         let Some(cells) = room_for(f, positions) else {
             return Err(NoMemory);
@@ -47,7 +49,7 @@ impl Bench {
 /// The number of cells that the formula takes, `None` where it is beyond all numbers of the machine.
 #[cycle(room)]
 fn room_for(f: &Formula, positions: usize) -> Option<usize>
-    ensures { IfSome result (λ cells. cells ≡ room positions (meaning f.now)) }
+    ensures { IfSome result (λ cells. cells ≡ cell_count positions (meaning f.now)) }
 {
     match f {
         Formula::True => Some(positions),
@@ -69,7 +71,7 @@ fn room_for(f: &Formula, positions: usize) -> Option<usize>
 
 #[cycle(room)]
 fn room_above(f: &Formula, positions: usize) -> Option<usize>
-    ensures { IfSome result (λ cells. cells ≡ positions + room positions (meaning f.now)) }
+    ensures { IfSome result (λ cells. cells ≡ positions + cell_count positions (meaning f.now)) }
 {
     let cells = room_for(f, positions)?;
     positions.checked_add(cells)
@@ -77,7 +79,8 @@ fn room_above(f: &Formula, positions: usize) -> Option<usize>
 
 #[cycle(room)]
 fn room_above_both(f: &Formula, g: &Formula, positions: usize) -> Option<usize>
-    ensures { IfSome result (λ cells. cells ≡ positions + max (room positions (meaning f.now)) (room positions (meaning g.now))) }
+    ensures { IfSome result (λ cells.
+        cells ≡ positions + max (cell_count positions (meaning f.now)) (cell_count positions (meaning g.now))) }
 {
     let left = room_for(f, positions)?;
     let right = room_for(g, positions)?;
@@ -88,8 +91,8 @@ fn room_above_both(f: &Formula, g: &Formula, positions: usize) -> Option<usize>
 ///
 /// It takes no memory, and time in proportion to the number of positions times the size of the formula.
 pub fn holds_on(lasso: &Lasso, f: &Formula, bench: &mut Bench) -> bool
-    requires room { room (length lasso.now.states) (meaning f.now) ≤ bench.old }
-    requires fits { Fits (word lasso.now.states lasso.now.loop_at) (meaning f.now) }
+    requires room { cell_count (length lasso.now.states) (meaning f.now) ≤ bench.old }
+    requires fits { IsModerateOn (word lasso.now.states lasso.now.loop_at) (meaning f.now) }
     ensures truth { IsTrue result ↔ Holds (word lasso.now.states lasso.now.loop_at) (meaning f.now) 0 }
     ensures bench { bench.new ≡ bench.old }
 {
@@ -103,9 +106,9 @@ pub fn holds_on(lasso: &Lasso, f: &Formula, bench: &mut Bench) -> bool
 #[cycle(fill)]
 fn fill(f: &Formula, states: &[Valuation], loop_at: usize, cells: &mut [bool])
     requires loop_at { loop_at < length states.now }
-    requires room { room (length states.now) (meaning f.now) ≤ length cells.old }
-    requires fits { Fits (word states.now loop_at) (meaning f.now) }
-    ensures { take (length states.now) cells.new ≡ row states.now loop_at (meaning f.now) }
+    requires room { cell_count (length states.now) (meaning f.now) ≤ length cells.old }
+    requires fits { IsModerateOn (word states.now loop_at) (meaning f.now) }
+    ensures { take (length states.now) cells.new ≡ truth_row states.now loop_at (meaning f.now) }
 {
     match f {
         Formula::True => fill_first(true, states.len(), cells),
@@ -157,8 +160,9 @@ fn fill_first(truth: bool, count: usize, cells: &mut [bool])
 fn fill_atom_first(atom: &Atom, states: &[Valuation], loop_at: usize, cells: &mut [bool])
     requires loop_at { loop_at < length states.now }
     requires room { length states.now ≤ length cells.old }
-    requires fits { Fits (word states.now loop_at) (Ltl.Atomic (test_of atom.now)) }
-    ensures { take (length states.now) cells.new ≡ test_row (test_of atom.now) (get_or states.now loop_at []) states.now }
+    requires fits { IsModerateOn (word states.now loop_at) (Ltl.Atomic (proposition_of atom.now)) }
+    ensures { take (length states.now) cells.new
+        ≡ proposition_row (proposition_of atom.now) (get_or states.now loop_at []) states.now }
 {
     let (own, _) = cells.split_at_mut(states.len());
     fill_atom(atom, states, loop_at, own);
@@ -167,9 +171,9 @@ fn fill_atom_first(atom: &Atom, states: &[Valuation], loop_at: usize, cells: &mu
 #[cycle(fill)]
 fn fill_unary(form: Unary, f: &Formula, states: &[Valuation], loop_at: usize, cells: &mut [bool])
     requires loop_at { loop_at < length states.now }
-    requires room { length states.now + room (length states.now) (meaning f.now) ≤ length cells.old }
-    requires fits { Fits (word states.now loop_at) (meaning f.now) }
-    ensures { take (length states.now) cells.new ≡ unary_row form loop_at (row states.now loop_at (meaning f.now)) }
+    requires room { length states.now + cell_count (length states.now) (meaning f.now) ≤ length cells.old }
+    requires fits { IsModerateOn (word states.now loop_at) (meaning f.now) }
+    ensures { take (length states.now) cells.new ≡ unary_row form loop_at (truth_row states.now loop_at (meaning f.now)) }
 {
     fill(f, states, loop_at, cells);
     let (own, rest) = cells.split_at_mut(states.len());
@@ -186,10 +190,12 @@ fn fill_binary(
     cells: &mut [bool],
 )
     requires loop_at { loop_at < length states.now }
-    requires room { length states.now + max (room (length states.now) (meaning f.now)) (room (length states.now) (meaning g.now)) ≤ length cells.old }
-    requires left_fits { Fits (word states.now loop_at) (meaning f.now) }
-    requires right_fits { Fits (word states.now loop_at) (meaning g.now) }
-    ensures { take (length states.now) cells.new ≡ binary_row form loop_at (row states.now loop_at (meaning f.now)) (row states.now loop_at (meaning g.now)) }
+    requires room { let n = length states.now in
+        n + max (cell_count n (meaning f.now)) (cell_count n (meaning g.now)) ≤ length cells.old }
+    requires left_fits { IsModerateOn (word states.now loop_at) (meaning f.now) }
+    requires right_fits { IsModerateOn (word states.now loop_at) (meaning g.now) }
+    ensures { take (length states.now) cells.new ≡ binary_row form loop_at
+        (truth_row states.now loop_at (meaning f.now)) (truth_row states.now loop_at (meaning g.now)) }
 {
     fill(f, states, loop_at, cells);
     let (own, rest) = cells.split_at_mut(states.len());

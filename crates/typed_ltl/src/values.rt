@@ -1,9 +1,10 @@
-//! The values of terms, picks and atoms at a valuation and the next one.
+//! The values of terms, picks and atoms at a valuation and the next one; the main functions are
+//! `Term::value`, `Pick::name` and `Atom::holds`. May touch nothing.
 
 ghost use Rattle.std.specs.Prelude.{◌≡◌};
-ghost use Rattle.typed_ltl.specs.Formulas.{number_of, choice_of, test_of};
+ghost use Rattle.typed_ltl.specs.Formulas.{number_of, choice_of, proposition_of};
 ghost use Rattle.typed_ltl.specs.Traces.{assignment};
-ghost use Rattle.typed_ltl.specs.Truth.{as_truth, as_number, as_name, number, choice, test, NumberFits, TestFits};
+ghost use Rattle.typed_ltl.specs.Truth.{as_truth, as_number, as_name, number_value, choice_name, proposition_truth, IsModerateNumber, IsModerateProposition};
 
 use crate::atom::Atom;
 use crate::lasso::Valuation;
@@ -51,8 +52,8 @@ impl Valuation {
 impl Term {
     /// The value of the term at a valuation and the next one.
     pub fn value(&self, now: &Valuation, after: &Valuation) -> i64
-        requires { NumberFits (assignment now.now) (assignment after.now) (number_of self.now) }
-        ensures { result ≡ number (assignment now.now) (assignment after.now) (number_of self.now) }
+        requires { IsModerateNumber (assignment now.now) (assignment after.now) (number_of self.now) }
+        ensures { result ≡ number_value (assignment now.now) (assignment after.now) (number_of self.now) }
     {
         match self {
             Term::Const(number) => *number,
@@ -70,7 +71,7 @@ impl Term {
 impl Pick {
     /// The name that the pick stands for at a valuation and the next one.
     pub fn name<'a>(&'a self, now: &'a Valuation, after: &'a Valuation) -> &'a str
-        ensures { result.now ≡ choice (assignment now.now) (assignment after.now) (choice_of self.now) }
+        ensures { result.now ≡ choice_name (assignment now.now) (assignment after.now) (choice_of self.now) }
     {
         match self {
             Pick::Name(name) => name.as_str(),
@@ -85,8 +86,8 @@ impl Pick {
 impl Atom {
     /// Whether the atom holds at a valuation and the next one.
     pub fn holds(&self, now: &Valuation, after: &Valuation) -> bool
-        requires { TestFits (assignment now.now) (assignment after.now) (test_of self.now) }
-        ensures { result ≡ test (assignment now.now) (assignment after.now) (test_of self.now) }
+        requires { IsModerateProposition (assignment now.now) (assignment after.now) (proposition_of self.now) }
+        ensures { result ≡ proposition_truth (assignment now.now) (assignment after.now) (proposition_of self.now) }
     {
         match self {
             Atom::Port { port, next } => {

@@ -16,8 +16,10 @@ loop-i-preserved c =
     let inv = c.loop-i.invariant in
     record {
       within = omega arith;
-      cells = until_more c.args.after c.args.cells.now c.args.rights.now c.loop-i.cells c.loop-i.i c.loop-i.holds c.requires c.loop-i-test.true inv.within inv.cells inv.holds;
-      holds = until_holds c.args.after c.args.cells.now c.args.rights.now c.loop-i.cells c.loop-i.i c.loop-i.holds c.requires c.loop-i-test.true inv.within inv.cells inv.holds;
+      cells = until_more c.args.after c.args.cells.now c.args.rights.now c.loop-i.cells c.loop-i.i c.loop-i.holds
+          c.requires c.loop-i-test.true inv.within inv.cells inv.holds;
+      holds = until_holds c.args.after c.args.cells.now c.args.rights.now c.loop-i.cells c.loop-i.i c.loop-i.holds
+          c.requires c.loop-i-test.true inv.within inv.cells inv.holds;
     }
 
 pub returns : goal.returns
