@@ -3,7 +3,7 @@ use Rattle.std.proofs.Common.{◌≡◌, ℕ, ◌+◌, ◌<◌, ◌≤◌, suc, 
 use Rattle.std.specs.List.{list_all, prefix_len}
 use Rattle.std.proofs.lemmas.List.Sums.{prefix_len_is}
 use Rattle.std.proofs.lemmas.Bool.{cases_Bool, and_parts, and_from, cond-true, cond-false}
-use Rattle.oss_syntax.specs.Tokens.{Stops}
+use Rattle.oss_syntax.specs.Tokens.{NoFirstPasses}
 
 -- the longest front of bytes that pass, and what follows it
 
@@ -21,7 +21,7 @@ front_passes p (x ∷ xs) = elim (cases_Bool (p x)) [
   | inr e ↦ rw (no_more p x xs e) refl
 ]
 
-pub rest_stops : (p : ℕ → Bool) (xs : List ℕ) → Stops p (drop (prefix_len p xs) xs)
+pub rest_stops : (p : ℕ → Bool) (xs : List ℕ) → NoFirstPasses p (drop (prefix_len p xs) xs)
 rest_stops p [] = tt
 rest_stops p (x ∷ xs) = elim (cases_Bool (p x)) [
   | inl e ↦ rw (one_more p x xs e) (rest_stops p xs)
@@ -29,7 +29,8 @@ rest_stops p (x ∷ xs) = elim (cases_Bool (p x)) [
 ]
 
 -- a text that passes, before bytes that stop, is the longest front
-pub front_is : (p : ℕ → Bool) (text after : List ℕ) → list_all p text ≡ true → Stops p after → prefix_len p (text ++ after) ≡ length text
+pub front_is : (p : ℕ → Bool) (text after : List ℕ) → list_all p text ≡ true → NoFirstPasses p after
+    → prefix_len p (text ++ after) ≡ length text
 front_is p [] [] all stops = refl
 front_is p [] (b ∷ bs) all stops = no_more p b bs stops
 front_is p (x ∷ xs) after all stops =
@@ -37,8 +38,10 @@ front_is p (x ∷ xs) after all stops =
     one_more p x (xs ++ after) parts.0 ∙ ap suc (front_is p xs after parts.1 stops)
 
 -- a loop that stops at the first byte that doesn't pass, or at the end
-pub front_stops : (p : ℕ → Bool) (xs : List ℕ) (i : ℕ) → i < length xs → ((k : ℕ) → k < i → p (get_or xs k 0) ≡ true) → p (get_or xs i 0) ≡ false → i ≡ prefix_len p xs
+pub front_stops : (p : ℕ → Bool) (xs : List ℕ) (i : ℕ) → i < length xs → ((k : ℕ) → k < i → p (get_or xs k 0) ≡ true)
+    → p (get_or xs i 0) ≡ false → i ≡ prefix_len p xs
 front_stops p xs i h before here = sym (prefix_len_is p xs i 0 (omega arith) before (λ _. here))
 
-pub front_all : (p : ℕ → Bool) (xs : List ℕ) (i : ℕ) → length xs ≤ i → ((k : ℕ) → k < i → p (get_or xs k 0) ≡ true) → length xs ≡ prefix_len p xs
+pub front_all : (p : ℕ → Bool) (xs : List ℕ) (i : ℕ) → length xs ≤ i → ((k : ℕ) → k < i → p (get_or xs k 0) ≡ true)
+    → length xs ≡ prefix_len p xs
 front_all p xs i h before = sym (prefix_len_is p xs (length xs) 0 (omega arith) (λ k l. before k (omega arith)) (λ l. absurd (omega arith)))

@@ -1,7 +1,7 @@
--- What stands at the front of a text, as a function.
-use Rattle.std.specs.Prelude.{ℕ, ◌<◌, ◌≤◌, ◌==◌, max, List, length, take, drop, slice_index, if◌then◌else◌, Option, Some, None}
+-- What stands at the front of a text, as a function. This file serves proofs only: no public contract cites it.
+use Rattle.std.specs.Prelude.{ℕ, ◌<◌, ◌≤◌, ◌==◌, max, Bool, true, false, List, [], ◌∷◌, length, take, drop, slice_index, bytes_eq, if◌then◌else◌, Option, Some, None}
 use Rattle.std.specs.Char.{is_ascii_digit}
-use Rattle.std.specs.List.{fold, prefix_len, starts_with}
+use Rattle.std.specs.List.{fold, filter, prefix_len, starts_with}
 use Rattle.oss_syntax.specs.Tokens.{symbols, is_blank, is_word_start, is_word_byte, is_comment_byte, begins_comment, IsPieceOf, IsWithinLimit}
 use Rattle.oss_syntax.specs.declared.token.TokenKind.{TokenKind}
 use Rattle.oss_lexer.specs.declared.front.Front.{Front}
@@ -15,6 +15,15 @@ longer bytes len text = if starts_with ◌==◌ bytes text then max len (length 
 abbrev pub longest_of : List (List ℕ) → List ℕ → ℕ
 longest_of texts bytes = fold (longer bytes) 0 texts
 
+-- the texts of this length
+abbrev pub of_length : ℕ → List (List ℕ) → List (List ℕ)
+of_length len texts = filter (λ (text : List ℕ). length text == len) texts
+
+-- whether the text is one of these
+abbrev pub is_listed : List (List ℕ) → List ℕ → Bool
+is_listed [] text = false
+is_listed (other ∷ others) text = if bytes_eq text other then true else is_listed others text
+
 abbrev pub symbol_front : ℕ → Option Front
 symbol_front len = if len == 0 then None else Some (record { kind = Some Symbol; len = len })
 
@@ -23,8 +32,10 @@ unfoldable pub front_of : List ℕ → Option Front
 front_of bytes =
     if begins_comment bytes then Some (record { kind = None; len = prefix_len is_comment_byte bytes })
     else (if is_blank (slice_index bytes 0) then Some (record { kind = None; len = 1 })
-    else (if is_word_start (slice_index bytes 0) then Some (record { kind = Some Word; len = prefix_len is_word_byte bytes })
-    else (if is_ascii_digit (slice_index bytes 0) then Some (record { kind = Some Numeral; len = prefix_len is_ascii_digit bytes })
+    else (if is_word_start (slice_index bytes 0)
+    then Some (record { kind = Some Word; len = prefix_len is_word_byte bytes })
+    else (if is_ascii_digit (slice_index bytes 0)
+    then Some (record { kind = Some Numeral; len = prefix_len is_ascii_digit bytes })
     else symbol_front (longest_of symbols bytes))))
 
 -- the bytes begin with a piece of this kind and length
@@ -38,6 +49,6 @@ IsFrontIf bytes None = Unit {0}
 IsFrontIf bytes (Some front) = IsFront bytes front.kind front.len
 
 -- and it is within the limit on numerals
-pub record StandsAt (bytes : List ℕ) (front : Front) : Type 0 where
+pub record IsFrontWithinLimit (bytes : List ℕ) (front : Front) : Type 0 where
   pub is_front : IsFront bytes front.kind front.len
   pub limit : IsWithinLimit front.kind (take front.len bytes)

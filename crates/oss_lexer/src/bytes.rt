@@ -1,28 +1,27 @@
-ghost use Rattle.std.specs.Prelude.{◌≡◌, List, ℕ, map};
-ghost use Rattle.std.specs.Borrow.{Bor};
+//! Classes of bytes, and how far the longest run of one, or the longest symbol, goes. Main functions: `word_len`,
+//! `numeral_len`, `comment_len`, `symbol_len`. Reads the text only, and allocates nothing.
+
+ghost use Rattle.std.specs.Prelude.{◌≡◌, ◌∷◌, [], ◌≤◌, ◌↔◌, true, take, length, IsTrue};
 ghost use Rattle.std.specs.Char.{is_ascii_digit};
 ghost use Rattle.std.specs.List.{prefix_len};
 ghost use Rattle.oss_syntax.specs.Tokens.{symbols, is_blank, is_word_start, is_word_byte, is_comment_byte, begins_comment};
-ghost use Rattle.oss_lexer.specs.Fronts.{longest_of};
+ghost use Rattle.oss_lexer.specs.Fronts.{longest_of, of_length, is_listed};
 
-/// The symbols of the language.
-static SYMBOLS: [&[u8]; 28] = [
-    b":=", b":", b";", b",", b"..", b".", b"(", b")", b"{", b"}", b"[", b"]", b"<->", b"->", b"<=",
-    b">=", b"!=", b"=", b"<", b">", b"+", b"-", b"*", b"/", b"!", b"&", b"|", b"@",
-];
-
+/// Whether a byte is a space, a tab, a carriage return or a line feed.
 pub fn is_blank(byte: u8) -> bool
     ensures { result ≡ is_blank byte }
 {
     byte == b' ' || byte == b'\t' || byte == b'\r' || byte == b'\n'
 }
 
+/// Whether a byte is a letter or `_`.
 pub fn is_word_start(byte: u8) -> bool
     ensures { result ≡ is_word_start byte }
 {
     byte.is_ascii_alphabetic() || byte == b'_'
 }
 
+/// Whether a byte is a letter, a digit or `_`.
 fn is_word_byte(byte: u8) -> bool
     ensures { result ≡ is_word_byte byte }
 {
@@ -72,23 +71,96 @@ pub fn numeral_len(bytes: &[u8]) -> usize
     bytes.len()
 }
 
-/// The length of the longest of these texts that stands at the front, or 0 where none does.
-fn longest_of(texts: &[&[u8]], bytes: &[u8]) -> usize
-    ensures { result ≡ longest_of (map (λ (text : Bor (List ℕ)). text.now) texts.now) bytes.now }
+/// Whether a byte alone is a symbol.
+#[tactic(auto, unfolding(oss_syntax::specs::Tokens::symbols))]
+fn is_symbol_of_one(byte: u8) -> bool
+    ensures { result ≡ is_listed (of_length 1 symbols) (byte ∷ []) }
 {
-    let mut longest = 0;
-    for text in texts {
-        if bytes.starts_with(text) {
-            longest = longest.max(text.len());
-        }
+    matches!(
+        byte,
+        b':' | b';'
+            | b','
+            | b'.'
+            | b'('
+            | b')'
+            | b'{'
+            | b'}'
+            | b'['
+            | b']'
+            | b'='
+            | b'<'
+            | b'>'
+            | b'+'
+            | b'-'
+            | b'*'
+            | b'/'
+            | b'!'
+            | b'&'
+            | b'|'
+            | b'@'
+    )
+}
+
+/// Whether two bytes are a symbol.
+#[tactic(auto, unfolding(oss_syntax::specs::Tokens::symbols))]
+fn is_symbol_of_two(first: u8, second: u8) -> bool
+    ensures { result ≡ is_listed (of_length 2 symbols) (first ∷ second ∷ []) }
+{
+    matches!(
+        (first, second),
+        (b':' | b'<' | b'>' | b'!', b'=') | (b'.', b'.') | (b'-', b'>')
+    )
+}
+
+/// Whether three bytes are a symbol.
+#[tactic(auto, unfolding(oss_syntax::specs::Tokens::symbols))]
+fn is_symbol_of_three(first: u8, second: u8, third: u8) -> bool
+    ensures { result ≡ is_listed (of_length 3 symbols) (first ∷ second ∷ third ∷ []) }
+{
+    first == b'<' && second == b'-' && third == b'>'
+}
+
+/// Whether a symbol of one byte stands at the front.
+fn begins_with_one(bytes: &[u8]) -> bool
+    ensures { result ≡ is_listed (of_length 1 symbols) (take 1 bytes.now) }
+{
+    match bytes {
+        [first, ..] => is_symbol_of_one(*first),
+        [] => false,
     }
-    longest
+}
+
+/// Whether a symbol of two bytes stands at the front.
+fn begins_with_two(bytes: &[u8]) -> bool
+    ensures { result ≡ is_listed (of_length 2 symbols) (take 2 bytes.now) }
+{
+    match bytes {
+        [first, second, ..] => is_symbol_of_two(*first, *second),
+        _ => false,
+    }
+}
+
+/// Whether a symbol of three bytes stands at the front.
+fn begins_with_three(bytes: &[u8]) -> bool
+    ensures { result ≡ is_listed (of_length 3 symbols) (take 3 bytes.now) }
+{
+    match bytes {
+        [first, second, third, ..] => is_symbol_of_three(*first, *second, *third),
+        _ => false,
+    }
 }
 
 /// The length of the longest symbol at the front, or 0 where there is none.
-#[tactic(auto, unfolding(oss_syntax::specs::Tokens::symbols))]
 pub fn symbol_len(bytes: &[u8]) -> usize
     ensures { result ≡ longest_of symbols bytes.now }
 {
-    longest_of(&SYMBOLS, bytes)
+    if begins_with_three(bytes) {
+        3
+    } else if begins_with_two(bytes) {
+        2
+    } else if begins_with_one(bytes) {
+        1
+    } else {
+        0
+    }
 }

@@ -1,14 +1,17 @@
+//! What stands at the front of a text. Main function: `next_front`. Reads the text only, and allocates nothing.
+
 ghost use Rattle.std.specs.Prelude.{◌≡◌, ◌<◌, ◌≤◌, ◌↔◌, length, IsTrue, IfOk, IfErr};
 ghost use Rattle.std.specs.List.{list_all};
 ghost use Rattle.std.specs.Char.{is_ascii_digit};
 ghost use Rattle.std.specs.Str.Parse.{digits_value};
-ghost use Rattle.oss_syntax.specs.Tokens.{largest_numeral, IsFaultAt, IsWithinLimit};
-ghost use Rattle.oss_lexer.specs.Fronts.{front_of, StandsAt};
+ghost use Rattle.oss_base.specs.Limits.{largest_numeral};
+ghost use Rattle.oss_syntax.specs.Tokens.{IsFaultAt, IsWithinLimit};
+ghost use Rattle.oss_lexer.specs.Fronts.{front_of, IsFrontWithinLimit};
 
 use crate::bytes::{
     begins_comment, comment_len, is_blank, is_word_start, numeral_len, symbol_len, word_len,
 };
-use oss_base::FaultKind;
+use oss_base::{FaultKind, LARGEST_NUMERAL};
 use oss_syntax::TokenKind;
 
 /// A piece at the front of a text: the kind of its token, or none for a gap, and its length.
@@ -18,6 +21,7 @@ pub struct Front {
     pub len: usize,
 }
 
+/// A token of this kind and length at the front.
 fn token(kind: TokenKind, len: usize) -> Option<Front>
     ensures { result ≡ Some (record { kind = Some kind; len = len }) }
 {
@@ -27,6 +31,7 @@ fn token(kind: TokenKind, len: usize) -> Option<Front>
     })
 }
 
+/// A gap of this length at the front.
 fn gap(len: usize) -> Option<Front>
     ensures { result ≡ Some (record { kind = None; len = len }) }
 {
@@ -66,7 +71,7 @@ fn is_small(digits: &[u8]) -> bool
     let mut value: u32 = 0;
     for digit in digits {
         value = value * 10 + u32::from(*digit - b'0');
-        if value > 1_000_000 {
+        if value > LARGEST_NUMERAL {
             return false;
         }
     }
@@ -89,7 +94,7 @@ fn is_within_limit(kind: Option<TokenKind>, text: &[u8]) -> bool
 /// The piece at the front, within the limit on numerals, or the kind of the fault that stands there.
 pub fn next_front(rest: &[u8]) -> Result<Front, FaultKind>
     requires { 0 < length rest.now }
-    ensures piece { IfOk result (StandsAt rest.now) }
+    ensures piece { IfOk result (IsFrontWithinLimit rest.now) }
     ensures fault { IfErr result (λ kind. IsFaultAt kind rest.now) }
 {
     match any_front(rest) {

@@ -1,3 +1,6 @@
+//! What is always so of tokens and first lexing faults: laws, each on a function without code that may be called for
+//! its clause. Touches nothing.
+
 ghost use Rattle.oss_lexer.specs.Laws.{OneFirstFault, OnePiece, OneTokenList, TokensOrFault, TokensStand, TokensWithoutFault};
 
 /// No two pieces begin at the same byte.

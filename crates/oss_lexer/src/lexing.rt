@@ -1,8 +1,10 @@
-ghost use Rattle.std.specs.Prelude.{◌≡◌, ◌++◌, ◌≤◌, ◌+◌, ◌<◌, ◌^◌, List, length, OnOk, IfOk, IfErr, MatchResult};
-ghost use Rattle.oss_base.specs.declared.fault.Fault.{Fault};
-ghost use Rattle.oss_syntax.specs.declared.token.Token.{Token};
+//! The tokens of a text. Main function: `lex`. Allocates the list of tokens, and touches nothing else.
+
+ghost use Rattle.std.specs.Prelude.{◌≡◌, ◌++◌, ◌≤◌, ◌+◌, ◌<◌, ◌^◌, length, OnOk, IfOk};
+ghost use Rattle.oss_base.specs.Faults.{IfFault};
+ghost use Rattle.oss_base.specs.Limits.{most_bytes};
 ghost use Rattle.oss_syntax.specs.Tokens.{token_of, AreTokens, IsFirstFault};
-ghost use Rattle.oss_lexer.specs.Laws.{IsStop};
+ghost use Rattle.oss_lexer.specs.Answers.{GivesTokens, GivesFault};
 
 use crate::front::{Front, next_front};
 use oss_base::{Fault, Span, Stop, place_of};
@@ -29,11 +31,11 @@ fn add_token(tokens: &mut Tokens, front: Front, start: usize) -> Result<(), NoMe
 ///
 /// The time is linear in the number of bytes.
 pub fn lex(alloc: Global, bytes: &[u8]) -> Result<Tokens, Stop>
-    requires { length bytes.now ≤ 4194304 }
+    requires { length bytes.now ≤ most_bytes }
     ensures tokens { IfOk result (AreTokens bytes.now) }
-    ensures fault { IfErr result (IsStop (IsFirstFault bytes.now)) }
-    ensures accepted { (tokens : List Token) → AreTokens bytes.now tokens → MatchResult result (λ found. found ≡ tokens) (λ stop. stop ≡ Stop.NoMemory) }
-    ensures refused { (fault : Fault) → IsFirstFault bytes.now fault → MatchResult result (λ _. ⊥) (IsStop (λ found. found ≡ fault)) }
+    ensures fault { IfFault result (IsFirstFault bytes.now) }
+    ensures accepted { GivesTokens bytes.now result }
+    ensures refused { GivesFault bytes.now result }
 {
     let mut tokens = Tokens::new(alloc);
     let mut at = 0;

@@ -11,7 +11,8 @@ use Rattle.std.proofs.lemmas.Str.{digit_value_digit}
 digit_between : (b : ℕ) → is_ascii_digit b ≡ true → (48 ≤ b) × (b ≤ 57)
 digit_between b h = grind (arith, nat_tests)
 
-pub digit_range : (digits : List ℕ) → list_all is_ascii_digit digits ≡ true → (i : ℕ) → i < length digits → (48 ≤ get_or digits i 0) × (get_or digits i 0 ≤ 57)
+pub digit_range : (digits : List ℕ) → list_all is_ascii_digit digits ≡ true → (i : ℕ) → i < length digits
+    → (48 ≤ get_or digits i 0) × (get_or digits i 0 ≤ 57)
 digit_range digits h i inside = digit_between _ (AllPass-from_list_all is_ascii_digit digits h i 0 inside)
 
 pub value_more : (digits : List ℕ) → list_all is_ascii_digit digits ≡ true → (i : ℕ) → i < length digits

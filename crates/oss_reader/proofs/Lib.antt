@@ -8,3 +8,4 @@ pub mod Spans
 pub mod Digits
 pub mod Lengths
 pub mod Results
+mod WordTables

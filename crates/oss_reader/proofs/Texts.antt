@@ -4,14 +4,14 @@ use Rattle.oss_syntax.specs.declared.words.Word.{Word}
 use Rattle.oss_syntax.specs.declared.expression.BinaryWord.TheVariants as binary
 use Rattle.oss_syntax.specs.declared.terminal.Mark.{Mark}
 use Rattle.oss_syntax.specs.declared.terminal.Mark.TheVariants as mark
-use Rattle.oss_syntax.specs.declared.terminal.Terminal.{Terminal}
-use Rattle.oss_syntax.specs.declared.terminal.Terminal.TheVariants as terminal
-use Rattle.oss_syntax.specs.Steps.{Mark_then, Phrase_then, Leaves, Many}
-use Rattle.oss_syntax.specs.Items.{IsItem, IsRefinementPart}
-use Rattle.oss_syntax.specs.Trees.{Item, RefinementPart, Component}
+use Rattle.oss_syntax.specs.Alphabet.{Terminal}
+use Rattle.oss_syntax.specs.Alphabet as terminal
+use Rattle.oss_syntax.specs.Steps.{Mark_then, Phrase_then, RestIs, Many}
+use Rattle.oss_syntax.specs.Items.{IsItem, IsRefinementItem}
+use Rattle.oss_syntax.specs.Trees.{Item, RefinementItemTree, Component}
 use Rattle.oss_syntax.specs.Texts.{IsSystem, IsRefinement, IsComponent, IsRequiresLine, IsText}
 use Rattle.oss_reader.specs.Reads.{Sole, Nothing, SoleUntil, NothingUntil, IsMark, NoMark, NoName, IsNamed, NotNamed, NoMinus, IsMinus}
-use Rattle.oss_reader.specs.Rules.{NoItem, NoPart, AtComponent, IsWhole, SystemRead, HeadRead, NoHead, AtEnd, SoleText}
+use Rattle.oss_reader.specs.Rules.{NoItem, NoRefinementItem, AtComponent, IsWhole, SystemRead, HeadRead, NoHead, AtEnd, SoleText}
 use Rattle.oss_reader.proofs.Sequences.{mark_step, name_step, no_mark, no_name, mark_made, name_made, until_step, no_until, until_made, mark_apart}
 
 -- where a component begins, or nothing is left, no other mark stands
@@ -29,7 +29,7 @@ at_no_item ts at = record {
   contract = at_no_mark ts mark.Contract (λ e. cc) at;
 }
 
-pub at_no_part : (ts : List Terminal) → AtComponent ts → NoPart ts
+pub at_no_part : (ts : List Terminal) → AtComponent ts → NoRefinementItem ts
 at_no_part ts at = record {
   sub = at_no_mark ts mark.Sub (λ e. cc) at;
   connection = at_no_mark ts mark.Connection (λ e. cc) at;
@@ -38,54 +38,67 @@ at_no_part ts at = record {
 
 -- the refinement
 
-refinement_none_only : (ts : List Terminal) → NoMark mark.Refinement ts → (other : Option (List RefinementPart)) (left : List Terminal) → IsRefinement ts other left
+refinement_none_only : (ts : List Terminal) → NoMark mark.Refinement ts
+    → (other : Option (List RefinementItemTree)) (left : List Terminal) → IsRefinement ts other left
     → (other ≡ None) × (left ≡ ts)
 refinement_none_only ts none None left h = (refl, sym h)
 refinement_none_only ts none (Some parts) left h = absurd (no_mark none h)
 
-pub refinement_none : (ts : List Terminal) → NoMark mark.Refinement ts → AtComponent ts → SoleUntil IsRefinement AtComponent ts None ts
+pub refinement_none : (ts : List Terminal) → NoMark mark.Refinement ts → AtComponent ts
+    → SoleUntil IsRefinement AtComponent ts None ts
 refinement_none ts none at = record { holds = refl; stops = at; only = λ other left h s. refinement_none_only ts none other left h }
 
-pub refinement_none_never : (ts : List Terminal) → NoMark mark.Refinement ts → (AtComponent ts → ⊥) → NothingUntil IsRefinement AtComponent ts
+pub refinement_none_never : (ts : List Terminal) → NoMark mark.Refinement ts → (AtComponent ts → ⊥)
+    → NothingUntil IsRefinement AtComponent ts
 refinement_none_never ts none away other left h s =
     let same = refinement_none_only ts none other left h in
     away (subst AtComponent same.1 s)
 
-leaves_no_part : (rest : List Terminal) → AtComponent rest → (left : List Terminal) → Leaves rest left → NoPart left
-leaves_no_part rest at left e = subst NoPart (sym e) (at_no_part rest at)
+leaves_no_part : (rest : List Terminal) → AtComponent rest → (left : List Terminal) → RestIs rest left
+    → NoRefinementItem left
+leaves_no_part rest at left e = subst NoRefinementItem (sym e) (at_no_part rest at)
 
-refinement_some_only : (ts mid : List Terminal) (parts : List RefinementPart) (left : List Terminal) → IsMark mark.Refinement ts mid
-    → SoleUntil (Many IsRefinementPart) NoPart mid parts left
-    → (other : Option (List RefinementPart)) (rest : List Terminal) → IsRefinement ts other rest → AtComponent rest → (other ≡ Some parts) × (rest ≡ left)
+refinement_some_only : (ts mid : List Terminal) (parts : List RefinementItemTree) (left : List Terminal)
+    → IsMark mark.Refinement ts mid
+    → SoleUntil (Many IsRefinementItem) NoRefinementItem mid parts left
+    → (other : Option (List RefinementItemTree)) (rest : List Terminal) → IsRefinement ts other rest
+    → AtComponent rest → (other ≡ Some parts) × (rest ≡ left)
 refinement_some_only ts mid parts left i s None rest h at =
     let none = at_no_mark ts mark.Refinement (λ e. cc) (subst AtComponent (sym h) at) in
     absurd (none i.span mid i.begins)
 refinement_some_only ts mid parts left i s (Some others) rest h at =
     let one = until_step s (leaves_no_part rest at) (mark_step i h) in
-    (ap (λ (x : List RefinementPart). Some x) one.0, sym one.1)
+    (ap (λ (x : List RefinementItemTree). Some x) one.0, sym one.1)
 
-pub refinement_some : (ts mid : List Terminal) (parts : List RefinementPart) (left : List Terminal) → IsMark mark.Refinement ts mid
-    → SoleUntil (Many IsRefinementPart) NoPart mid parts left → AtComponent left → SoleUntil IsRefinement AtComponent ts (Some parts) left
+pub refinement_some : (ts mid : List Terminal) (parts : List RefinementItemTree) (left : List Terminal)
+    → IsMark mark.Refinement ts mid
+    → SoleUntil (Many IsRefinementItem) NoRefinementItem mid parts left → AtComponent left
+    → SoleUntil IsRefinement AtComponent ts (Some parts) left
 refinement_some ts mid parts left i s at = record {
   holds = mark_made i (until_made s refl);
   stops = at;
   only = refinement_some_only ts mid parts left i s;
 }
 
-pub refinement_broken : (ts mid : List Terminal) → IsMark mark.Refinement ts mid → NothingUntil (Many IsRefinementPart) NoPart mid → NothingUntil IsRefinement AtComponent ts
+pub refinement_broken : (ts mid : List Terminal) → IsMark mark.Refinement ts mid
+    → NothingUntil (Many IsRefinementItem) NoRefinementItem mid → NothingUntil IsRefinement AtComponent ts
 refinement_broken ts mid i none None rest h at =
     let unmarked = at_no_mark ts mark.Refinement (λ e. cc) (subst AtComponent (sym h) at) in
     unmarked i.span mid i.begins
-refinement_broken ts mid i none (Some others) rest h at = no_until NoPart none (leaves_no_part rest at) (mark_step i h)
+refinement_broken ts mid i none (Some others) rest h at = no_until NoRefinementItem none (leaves_no_part rest at) (mark_step i h)
 
-pub refinement_open : (ts mid : List Terminal) (parts : List RefinementPart) (left : List Terminal) → IsMark mark.Refinement ts mid
-    → SoleUntil (Many IsRefinementPart) NoPart mid parts left → (AtComponent left → ⊥) → NothingUntil IsRefinement AtComponent ts
+pub refinement_open : (ts mid : List Terminal) (parts : List RefinementItemTree) (left : List Terminal)
+    → IsMark mark.Refinement ts mid
+    → SoleUntil (Many IsRefinementItem) NoRefinementItem mid parts left → (AtComponent left → ⊥)
+    → NothingUntil IsRefinement AtComponent ts
 refinement_open ts mid parts left i s away other rest h at =
     let same = refinement_some_only ts mid parts left i s other rest h at in
     away (subst AtComponent same.1 at)
 
 -- a refinement or a component ends the items of an interface
-pub refinement_no_item : (rest : List Terminal) → AtComponent rest → (refinement : Option (List RefinementPart)) (ts : List Terminal) → IsRefinement ts refinement rest → NoItem ts
+pub refinement_no_item : (rest : List Terminal) → AtComponent rest
+    → (refinement : Option (List RefinementItemTree)) (ts : List Terminal) → IsRefinement ts refinement rest
+    → NoItem ts
 refinement_no_item rest at None ts h = subst NoItem (sym h) (at_no_item rest at)
 refinement_no_item rest at (Some parts) ts h = record {
   input = mark_apart (λ e. cc) h;
@@ -93,45 +106,56 @@ refinement_no_item rest at (Some parts) ts h = record {
   contract = mark_apart (λ e. cc) h;
 }
 
-pub items_end : (rest : List Terminal) → AtComponent rest → (refinement : Option (List RefinementPart)) (left : List Terminal) → Phrase_then IsRefinement refinement (Leaves rest) left → NoItem left
-items_end rest at refinement left h = refinement_no_item rest at refinement left (subst (λ (x : List Terminal). IsRefinement left refinement x) h.next h.holds)
+pub items_end : (rest : List Terminal) → AtComponent rest
+    → (refinement : Option (List RefinementItemTree)) (left : List Terminal)
+    → Phrase_then IsRefinement refinement (RestIs rest) left → NoItem left
+items_end rest at refinement left h = refinement_no_item rest at refinement left
+    (subst (λ (x : List Terminal). IsRefinement left refinement x) h.next h.holds)
 
 -- the word `system`
-pub system_end : {Next : List Terminal → Type 0} (left : List Terminal) → Mark_then mark.Interface Next left → NoMark mark.System left
+pub system_end : {Next : List Terminal → Type 0} (left : List Terminal) → Mark_then mark.Interface Next left
+    → NoMark mark.System left
 system_end left h = mark_apart (λ e. cc) h
 
 system_some_only : (ts left : List Terminal) (span : Span) → ts ≡ terminal.Mark mark.System span ∷ left
-    → (other : Option Span) (rest : List Terminal) → IsSystem ts other rest → NoMark mark.System rest → (other ≡ Some span) × (rest ≡ left)
+    → (other : Option Span) (rest : List Terminal) → IsSystem ts other rest → NoMark mark.System rest
+    → (other ≡ Some span) × (rest ≡ left)
 system_some_only ts left span e (Some s) rest h none = let same : s ≡ span = cc in (ap (λ (x : Span). Some x) same, cc)
 system_some_only ts left span e None rest h none = absurd (none span left cc)
 
-system_none_only : (ts : List Terminal) → NoMark mark.System ts → (other : Option Span) (rest : List Terminal) → IsSystem ts other rest → (other ≡ None) × (rest ≡ ts)
+system_none_only : (ts : List Terminal) → NoMark mark.System ts → (other : Option Span) (rest : List Terminal)
+    → IsSystem ts other rest → (other ≡ None) × (rest ≡ ts)
 system_none_only ts none (Some s) rest h = absurd (none s rest h)
 system_none_only ts none None rest h = (refl, sym h)
 
 -- a component
-component_same : (c : Component) (name : Word) (system : Option Span) (interface : List Item) (refinement : Option (List RefinementPart))
+component_same : (c : Component) (name : Word) (system : Option Span) (interface : List Item)
+    (refinement : Option (List RefinementItemTree))
     → c.name ≡ name → c.system ≡ system → c.interface ≡ interface → c.refinement ≡ refinement
     → c ≡ record { name = name; system = system; interface = interface; refinement = refinement }
 component_same c name system interface refinement e f g h =
     ap (λ (x : Word). record { name = x; system = c.system; interface = c.interface; refinement = c.refinement }) e
     ∙ (ap (λ (x : Option Span). record { name = name; system = x; interface = c.interface; refinement = c.refinement }) f
     ∙ (ap (λ (x : List Item). record { name = name; system = system; interface = x; refinement = c.refinement }) g
-    ∙ ap (λ (x : Option (List RefinementPart)). record { name = name; system = system; interface = interface; refinement = x }) h))
+    ∙ ap (λ (x : Option (List RefinementItemTree)). record { name = name; system = system; interface = interface; refinement = x }) h))
 
-pub system_step : {Next : List Terminal → Type 0} {ts left : List Terminal} {system other : Option Span} → SystemRead ts system left
-    → Phrase_then IsSystem other (Mark_then mark.Interface Next) ts → (other ≡ system) × Mark_then mark.Interface Next left
+pub system_step : {Next : List Terminal → Type 0} {ts left : List Terminal} {system other : Option Span}
+    → SystemRead ts system left
+    → Phrase_then IsSystem other (Mark_then mark.Interface Next) ts
+    → (other ≡ system) × Mark_then mark.Interface Next left
 system_step {Next} {ts} {left} {system} {other} s h =
     let same = s.only other h.left h.holds (system_end h.left h.next) in
     (same.0, subst (Mark_then mark.Interface Next) same.1 h.next)
 
-pub system_read_some : (ts left : List Terminal) (span : Span) → ts ≡ terminal.Mark mark.System span ∷ left → SystemRead ts (Some span) left
+pub system_read_some : (ts left : List Terminal) (span : Span) → ts ≡ terminal.Mark mark.System span ∷ left
+    → SystemRead ts (Some span) left
 system_read_some ts left span e = record { holds = e; only = system_some_only ts left span e }
 
 pub system_read_none : (ts : List Terminal) → NoMark mark.System ts → SystemRead ts None ts
 system_read_none ts none = record { holds = refl; only = λ other rest h s. system_none_only ts none other rest h }
 
-pub component_whole : (ts a b c d e left : List Terminal) (name : Word) (system : Option Span) (interface : List Item) (refinement : Option (List RefinementPart))
+pub component_whole : (ts a b c d e left : List Terminal) (name : Word) (system : Option Span) (interface : List Item)
+    (refinement : Option (List RefinementItemTree))
     → IsMark mark.Component ts a → a ≡ terminal.Name name ∷ b → SystemRead b system c → IsMark mark.Interface c d
     → SoleUntil (Many IsItem) NoItem d interface e → SoleUntil IsRefinement AtComponent e refinement left
     → Sole IsWhole ts (record { name = name; system = system; interface = interface; refinement = refinement }) left
@@ -152,7 +176,8 @@ pub component_nameless : (ts a : List Terminal) → IsMark mark.Component ts a �
 component_nameless ts a i none other rest h = no_name none (mark_step i h.0)
 
 pub component_no_interface : (ts a b c : List Terminal) (name : Word) (system : Option Span)
-    → IsMark mark.Component ts a → a ≡ terminal.Name name ∷ b → SystemRead b system c → NoMark mark.Interface c → Nothing IsWhole ts
+    → IsMark mark.Component ts a → a ≡ terminal.Name name ∷ b → SystemRead b system c → NoMark mark.Interface c
+    → Nothing IsWhole ts
 component_no_interface ts a b c name system i n s none other rest h =
     no_mark none (system_step s (name_step n (mark_step i h.0)).1).1
 
@@ -178,11 +203,13 @@ pub many_at : (ts : List Terminal) (components : List Component) → Many IsComp
 many_at ts [] h = inl h
 many_at ts (c ∷ cs) h = inr (h.1.span, h.1.left, h.1.begins)
 
-pub many_whole : (ts : List Terminal) (components : List Component) → Many IsComponent ts components [] → Many IsWhole ts components []
+pub many_whole : (ts : List Terminal) (components : List Component) → Many IsComponent ts components []
+    → Many IsWhole ts components []
 many_whole ts [] h = h
 many_whole ts (c ∷ cs) h = (h.0, (h.1, many_at h.0 cs h.2), many_whole h.0 cs h.2)
 
-pub whole_many : (ts : List Terminal) (components : List Component) → Many IsWhole ts components [] → Many IsComponent ts components []
+pub whole_many : (ts : List Terminal) (components : List Component) → Many IsWhole ts components []
+    → Many IsComponent ts components []
 whole_many ts [] h = h
 whole_many ts (c ∷ cs) h = (h.0, h.1.0, whole_many h.0 cs h.2)
 
@@ -206,7 +233,8 @@ pub record LineRead (ts left : List Terminal) : Type 0 where
   pub only : (rest : List Terminal) → IsRequiresLine ts rest → rest ≡ left
 
 pub line_read : (ts a b c d left : List Terminal) (dash : Span)
-    → IsMark mark.At ts a → IsNamed (codes "requires") a b → IsNamed (codes "discrete") b c → IsMinus dash c d → IsNamed (codes "time") d left → LineRead ts left
+    → IsMark mark.At ts a → IsNamed (codes "requires") a b → IsNamed (codes "discrete") b c → IsMinus dash c d
+    → IsNamed (codes "time") d left → LineRead ts left
 line_read ts a b c d left dash i r s m t =
     let e = i.begins in
     let f = r.1 in
@@ -220,7 +248,8 @@ line_read ts a b c d left dash i r s m t =
 at_not_at : (ts a : List Terminal) → IsMark mark.At ts a → AtComponent ts → ⊥
 at_not_at ts a i at = at_no_mark ts mark.At (λ e. cc) at i.span a i.begins
 
-pub head_closed : (ts mid left : List Terminal) → LineRead ts mid → IsMark mark.Semicolon mid left → (a : List Terminal) → IsMark mark.At ts a → HeadRead ts left
+pub head_closed : (ts mid left : List Terminal) → LineRead ts mid → IsMark mark.Semicolon mid left
+    → (a : List Terminal) → IsMark mark.At ts a → HeadRead ts left
 head_closed ts mid left l i a at = record {
   holds = inr (inr (i.span, subst (IsRequiresLine ts) i.begins l.holds));
   only = λ rest h here.
@@ -234,7 +263,8 @@ head_closed ts mid left l i a at = record {
       ];
 }
 
-pub head_bare : (ts left : List Terminal) → LineRead ts left → NoMark mark.Semicolon left → (a : List Terminal) → IsMark mark.At ts a → HeadRead ts left
+pub head_bare : (ts left : List Terminal) → LineRead ts left → NoMark mark.Semicolon left → (a : List Terminal)
+    → IsMark mark.At ts a → HeadRead ts left
 head_bare ts left l none a at = record {
   holds = inr (inl l.holds);
   only = λ rest h here.
@@ -248,28 +278,38 @@ head_bare ts left l none a at = record {
 }
 
 -- there is no such line
-pub head_never : (ts a : List Terminal) → IsMark mark.At ts a → ((rest : List Terminal) → IsRequiresLine ts rest → ⊥) → NoHead ts
+pub head_never : (ts a : List Terminal) → IsMark mark.At ts a → ((rest : List Terminal) → IsRequiresLine ts rest → ⊥)
+    → NoHead ts
 head_never ts a at none rest h here =
     elim h [
       | inl same ↦ at_not_at ts a at (subst AtComponent (sym same) here)
       | inr line ↦ elim line [ inl bare ↦ none rest bare | inr closed ↦ none _ closed.1 ]
     ]
 
-pub line_first : (ts a : List Terminal) → IsMark mark.At ts a → NotNamed (codes "requires") a → (rest : List Terminal) → IsRequiresLine ts rest → ⊥
-line_first ts a i none rest h = let e = i.begins in let l = h.5 in none h.1 (terminal.Name (record { text = codes "discrete"; span = h.2 }) ∷ terminal.Binary binary.Minus h.3 ∷ terminal.Name (record { text = codes "time"; span = h.4 }) ∷ rest) cc
+pub line_first : (ts a : List Terminal) → IsMark mark.At ts a → NotNamed (codes "requires") a → (rest : List Terminal)
+    → IsRequiresLine ts rest → ⊥
+line_first ts a i none rest h = let e = i.begins in let l = h.5 in none h.1
+    (terminal.Name (record { text = codes "discrete"; span = h.2 }) ∷ terminal.Binary binary.Minus h.3 ∷ terminal.Name
+    (record { text = codes "time"; span = h.4 }) ∷ rest) cc
 
-pub line_second : (ts a b : List Terminal) → IsMark mark.At ts a → IsNamed (codes "requires") a b → NotNamed (codes "discrete") b → (rest : List Terminal) → IsRequiresLine ts rest → ⊥
-line_second ts a b i r none rest h = let e = i.begins in let f = r.1 in let l = h.5 in none h.2 (terminal.Binary binary.Minus h.3 ∷ terminal.Name (record { text = codes "time"; span = h.4 }) ∷ rest) cc
+pub line_second : (ts a b : List Terminal) → IsMark mark.At ts a → IsNamed (codes "requires") a b
+    → NotNamed (codes "discrete") b → (rest : List Terminal) → IsRequiresLine ts rest → ⊥
+line_second ts a b i r none rest h = let e = i.begins in let f = r.1 in let l = h.5 in none h.2
+    (terminal.Binary binary.Minus h.3 ∷ terminal.Name (record { text = codes "time"; span = h.4 }) ∷ rest) cc
 
-pub line_third : (ts a b c : List Terminal) → IsMark mark.At ts a → IsNamed (codes "requires") a b → IsNamed (codes "discrete") b c → NoMinus c → (rest : List Terminal) → IsRequiresLine ts rest → ⊥
-line_third ts a b c i r s none rest h = let e = i.begins in let f = r.1 in let g = s.1 in let l = h.5 in none h.3 (terminal.Name (record { text = codes "time"; span = h.4 }) ∷ rest) cc
+pub line_third : (ts a b c : List Terminal) → IsMark mark.At ts a → IsNamed (codes "requires") a b
+    → IsNamed (codes "discrete") b c → NoMinus c → (rest : List Terminal) → IsRequiresLine ts rest → ⊥
+line_third ts a b c i r s none rest h = let e = i.begins in let f = r.1 in let g = s.1 in let l = h.5 in none h.3
+    (terminal.Name (record { text = codes "time"; span = h.4 }) ∷ rest) cc
 
-pub line_fourth : (ts a b c d : List Terminal) (dash : Span) → IsMark mark.At ts a → IsNamed (codes "requires") a b → IsNamed (codes "discrete") b c → IsMinus dash c d → NotNamed (codes "time") d
+pub line_fourth : (ts a b c d : List Terminal) (dash : Span) → IsMark mark.At ts a → IsNamed (codes "requires") a b
+    → IsNamed (codes "discrete") b c → IsMinus dash c d → NotNamed (codes "time") d
     → (rest : List Terminal) → IsRequiresLine ts rest → ⊥
 line_fourth ts a b c d dash i r s m none rest h = let e = i.begins in let f = r.1 in let g = s.1 in let l = h.5 in none h.4 rest cc
 
 -- the whole text
-pub text_sole : (ts left : List Terminal) (components : List Component) → HeadRead ts left → SoleUntil (Many IsWhole) AtEnd left components [] → SoleText ts components
+pub text_sole : (ts left : List Terminal) (components : List Component) → HeadRead ts left
+    → SoleUntil (Many IsWhole) AtEnd left components [] → SoleText ts components
 text_sole ts left components h s = record {
   holds = (left, h.holds, whole_many left components s.holds);
   only = λ other t.
@@ -281,7 +321,8 @@ text_sole ts left components h s = record {
 pub text_headless : (ts : List Terminal) → NoHead ts → (components : List Component) → IsText ts components → ⊥
 text_headless ts none components t = none t.0 t.1 (many_at t.0 components t.2)
 
-pub text_never : (ts left : List Terminal) → HeadRead ts left → NothingUntil (Many IsWhole) AtEnd left → (components : List Component) → IsText ts components → ⊥
+pub text_never : (ts left : List Terminal) → HeadRead ts left → NothingUntil (Many IsWhole) AtEnd left
+    → (components : List Component) → IsText ts components → ⊥
 text_never ts left h none components t =
     let same = h.only t.0 t.1 (many_at t.0 components t.2) in
     none components [] (subst (λ (x : List Terminal). Many IsWhole x components []) same (many_whole t.0 components t.2)) refl

@@ -1,4 +1,6 @@
-use Rattle.std.specs.Prelude.{◌≡◌, ◌⊎◌, List, [], ◌∷◌, Bool, Option, Result, Ok, Err}
+-- The rules of items, components and texts as the reader goes through them. This file serves proofs only: no public
+-- contract cites it.
+use Rattle.std.specs.Prelude.{◌≡◌, ◌⊎◌, List, [], ◌∷◌, Bool, Option, Result, Ok, Err, map, MatchBool}
 use Rattle.oss_base.specs.declared.place.Span.{Span}
 use Rattle.oss_syntax.specs.declared.words.Word.{Word}
 use Rattle.oss_syntax.specs.declared.words.PartWord.{PartWord}
@@ -6,39 +8,46 @@ use Rattle.oss_syntax.specs.declared.types.TypeTree.{TypeTree}
 use Rattle.oss_syntax.specs.declared.expression.Role.TheVariants as roles
 use Rattle.oss_syntax.specs.declared.refinement.TargetTree.{TargetTree}
 use Rattle.oss_syntax.specs.declared.terminal.Mark.TheVariants as mark
-use Rattle.oss_syntax.specs.declared.terminal.Terminal.{Terminal}
-use Rattle.oss_syntax.specs.declared.terminal.Terminal.TheVariants as terminal
-use Rattle.oss_syntax.specs.Expressions.{Tree}
+use Rattle.oss_syntax.specs.Alphabet.{Terminal}
+use Rattle.oss_syntax.specs.Alphabet as terminal
+use Rattle.oss_syntax.specs.Expressions.{Tree, tree}
+use Rattle.oss_syntax.specs.declared.expression.Expr.{Expr}
+use Rattle.oss_syntax.specs.declared.interface.InterfaceItem.{InterfaceItem}
+use Rattle.oss_syntax.specs.declared.refinement.RefinementItem.{RefinementItem}
 use Rattle.oss_syntax.specs.Formulas.{Closed}
 use Rattle.oss_syntax.specs.Items.{IsNextName, IsType, IsTarget, IsNextPart, IsParts}
-use Rattle.oss_syntax.specs.Steps.{Mark_then, Name_then, Phrase_then, Leaves, Many}
-use Rattle.oss_syntax.specs.Texts.{IsSystem, IsComponent, IsHead, IsText}
-use Rattle.oss_syntax.specs.Trees.{Component, Item, Port, components_of}
+use Rattle.oss_syntax.specs.Steps.{Mark_then, Name_then, Phrase_then, RestIs, Many}
+use Rattle.oss_syntax.specs.Texts.{IsSystem, IsComponent, IsHead, IsText, IsNoText}
+use Rattle.oss_syntax.specs.Trees.{Component, Item, Port, RefinementItemTree, item_tree, refinement_item_tree, component_trees}
 use Rattle.oss_base.specs.declared.fault.Stop.{Stop}
 use Rattle.oss_base.specs.declared.fault.Stop.TheVariants as stops
 use Rattle.oss_syntax.specs.declared.component.TreeComponent.{TreeComponent}
 use Rattle.oss_reader.specs.declared.halt.Halt.{Halt}
 use Rattle.oss_reader.specs.declared.halt.Halt.TheVariants as halts
-use Rattle.oss_reader.specs.Reads.{Sole, SoleUntil, NoMark}
+use Rattle.oss_reader.specs.declared.rest.Rest.{Rest}
+use Rattle.oss_reader.specs.Ahead.{ahead}
+use Rattle.oss_reader.specs.Reads.{OnBroken, Nothing, NothingUntil, Sole, SoleUntil, NoMark}
 
 -- The rules of the items, after the words by which they begin.
 
 abbrev pub IsPort : List Terminal → Word × TypeTree → List Terminal → Type 0
-IsPort ts p rest = Mark_then mark.Port (Name_then p.0 (Mark_then mark.Colon (Phrase_then IsType p.1 (Mark_then mark.Semicolon (Leaves rest))))) ts
+IsPort ts p rest =
+    Mark_then mark.Port (Name_then p.0 (Mark_then mark.Colon
+    (Phrase_then IsType p.1 (Mark_then mark.Semicolon (RestIs rest))))) ts
 
 abbrev pub IsContract : List Terminal → Word × Tree × Tree → List Terminal → Type 0
 IsContract ts p rest =
     Name_then p.0 (Mark_then mark.Assume (Mark_then mark.Colon (Phrase_then (Closed roles.Formula) p.1
-    (Mark_then mark.Guarantee (Mark_then mark.Colon (Phrase_then (Closed roles.Formula) p.2 (Leaves rest))))))) ts
+    (Mark_then mark.Guarantee (Mark_then mark.Colon (Phrase_then (Closed roles.Formula) p.2 (RestIs rest))))))) ts
 
 abbrev pub IsSub : List Terminal → Word × Word → List Terminal → Type 0
-IsSub ts p rest = Name_then p.0 (Mark_then mark.Colon (Name_then p.1 (Mark_then mark.Semicolon (Leaves rest)))) ts
+IsSub ts p rest = Name_then p.0 (Mark_then mark.Colon (Name_then p.1 (Mark_then mark.Semicolon (RestIs rest)))) ts
 
 abbrev pub IsConnection : List Terminal → TargetTree × Tree → List Terminal → Type 0
-IsConnection ts p rest = Phrase_then IsTarget p.0 (Phrase_then (Closed roles.State) p.1 (Leaves rest)) ts
+IsConnection ts p rest = Phrase_then IsTarget p.0 (Phrase_then (Closed roles.State) p.1 (RestIs rest)) ts
 
 abbrev pub IsRefined : List Terminal → Word × List PartWord → List Terminal → Type 0
-IsRefined ts p rest = Name_then p.0 (Mark_then mark.RefinedBy (Phrase_then IsParts p.1 (Leaves rest))) ts
+IsRefined ts p rest = Name_then p.0 (Mark_then mark.RefinedBy (Phrase_then IsParts p.1 (RestIs rest))) ts
 
 -- no item of an interface begins there
 pub record NoItem (ts : List Terminal) : Type 0 where
@@ -47,7 +56,7 @@ pub record NoItem (ts : List Terminal) : Type 0 where
   pub contract : NoMark mark.Contract ts
 
 -- no item of a refinement begins there
-pub record NoPart (ts : List Terminal) : Type 0 where
+pub record NoRefinementItem (ts : List Terminal) : Type 0 where
   pub sub : NoMark mark.Sub ts
   pub connection : NoMark mark.Connection ts
   pub contract : NoMark mark.Contract ts
@@ -77,7 +86,8 @@ PortItem input ts item rest = (p : Word × TypeTree) × (item ≡ Port input p.0
 -- how the word `system` is read: it stands there, or not
 pub record SystemRead (ts : List Terminal) (system : Option Span) (left : List Terminal) : Type 0 where
   pub holds : IsSystem ts system left
-  pub only : (other : Option Span) (rest : List Terminal) → IsSystem ts other rest → NoMark mark.System rest → (other ≡ system) × (rest ≡ left)
+  pub only : (other : Option Span) (rest : List Terminal) → IsSystem ts other rest → NoMark mark.System rest
+      → (other ≡ system) × (rest ≡ left)
 
 -- what stands before the components, where these follow
 pub record HeadRead (ts left : List Terminal) : Type 0 where
@@ -96,22 +106,61 @@ pub record SoleText (ts : List Terminal) (components : List Component) : Type 0 
   pub holds : IsText ts components
   pub only : (other : List Component) → IsText ts other → other ≡ components
 
-abbrev pub NoText : List Terminal → Type 0
-NoText ts = (components : List Component) → IsText ts components → ⊥
-
 -- what a halt is answered as
-abbrev pub IsStopOf : Halt → Stop → Type 0
-IsStopOf (halts.Broken _) (stops.Fault _) = Unit {0}
-IsStopOf (halts.Broken _) stops.NoMemory = ⊥
-IsStopOf halts.NoMemory (stops.Fault _) = ⊥
-IsStopOf halts.NoMemory stops.NoMemory = Unit {0}
+abbrev pub AnswersHalt : {A : Type 0} → Halt → Result A Stop → Type 0
+AnswersHalt (halts.Broken _) (Err (stops.Fault _)) = Unit {0}
+AnswersHalt (halts.Broken _) (Err stops.NoMemory) = ⊥
+AnswersHalt halts.NoMemory (Err (stops.Fault _)) = ⊥
+AnswersHalt halts.NoMemory (Err stops.NoMemory) = Unit {0}
+AnswersHalt _ (Ok _) = ⊥
 
--- a fact where the answer is a fault
-abbrev pub OnStop : Stop → Type 0 → Type 0
-OnStop (stops.Fault _) P = P
-OnStop stops.NoMemory P = Unit {0}
+-- What the reading functions answer of items, components and texts.
+
+abbrev pub BeginsItem : List Terminal → Bool → Type 0
+BeginsItem ts begins = MatchBool begins (NoItem ts → ⊥) (NoItem ts)
+
+abbrev pub BeginsRefinementItem : List Terminal → Bool → Type 0
+BeginsRefinementItem ts begins = MatchBool begins (NoRefinementItem ts → ⊥) (NoRefinementItem ts)
+
+abbrev pub contract_tree : Word × Expr × Expr → Word × Tree × Tree
+contract_tree contract = (contract.0, tree contract.1, tree contract.2)
+
+abbrev pub connection_tree : TargetTree × Expr → TargetTree × Tree
+connection_tree connection = (connection.0, tree connection.1)
+
+abbrev pub refinement_trees : List RefinementItem → List RefinementItemTree
+refinement_trees items = map refinement_item_tree items
+
+abbrev pub ReadsPort : Bool → List Terminal → Result (InterfaceItem × Rest) Halt → Type 0
+ReadsPort input ts (Ok found) = PortItem input ts (item_tree found.0) (ahead found.1)
+ReadsPort input ts (Err halt) = OnBroken halt (Nothing IsPort ts)
+
+abbrev pub ReadsFurtherNames : Word → List Terminal → Result (List Word × Rest) Halt → Type 0
+ReadsFurtherNames first ts (Ok found) = FurtherNames first ts found.0 (ahead found.1)
+ReadsFurtherNames first ts (Err halt) = OnBroken halt (NothingUntil (Many IsNextName) (NoMark mark.Comma) ts)
+
+abbrev pub ReadsFurtherParts : PartWord → List Terminal → Result (List PartWord × Rest) Halt → Type 0
+ReadsFurtherParts first ts (Ok found) = FurtherParts first ts found.0 (ahead found.1)
+ReadsFurtherParts first ts (Err halt) = OnBroken halt (NothingUntil (Many IsNextPart) (NoMark mark.Comma) ts)
+
+abbrev pub ReadsEnd : List Terminal → Result (Unit {0}) Halt → Type 0
+ReadsEnd ts (Ok _) = AtComponent ts
+ReadsEnd ts (Err halt) = OnBroken halt (AtComponent ts → ⊥)
+
+abbrev pub ReadsComponents : List Terminal → Result (List TreeComponent) Halt → Type 0
+ReadsComponents ts (Ok components) = SoleUntil (Many IsWhole) AtEnd ts (component_trees components) []
+ReadsComponents ts (Err halt) = OnBroken halt (NothingUntil (Many IsWhole) AtEnd ts)
+
+abbrev pub ReadsHead : List Terminal → Result Rest Halt → Type 0
+ReadsHead ts (Ok left) = HeadRead ts (ahead left)
+ReadsHead ts (Err halt) = OnBroken halt (NoHead ts)
+
+abbrev pub ReadsSpec : List Terminal → Result (List TreeComponent) Halt → Type 0
+ReadsSpec ts (Ok components) = SoleText ts (component_trees components)
+ReadsSpec ts (Err halt) = OnBroken halt (IsNoText ts)
 
 -- the only text, or none
 abbrev pub ReadsText : List Terminal → Result (List TreeComponent) Stop → Type 0
-ReadsText ts (Ok components) = SoleText ts (components_of components)
-ReadsText ts (Err stop) = OnStop stop (NoText ts)
+ReadsText ts (Ok components) = SoleText ts (component_trees components)
+ReadsText ts (Err (stops.Fault _)) = IsNoText ts
+ReadsText ts (Err stops.NoMemory) = Unit {0}

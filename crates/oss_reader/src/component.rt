@@ -1,28 +1,30 @@
-ghost use Rattle.std.specs.Prelude.{◌≡◌, [], ◌∷◌, ◌↔◌, map, IsTrue, MatchResult, MatchBool, MatchOption};
-ghost use Rattle.oss_syntax.specs.declared.terminal.Mark.TheVariants as mark;
-ghost use Rattle.oss_syntax.specs.Steps.{Many};
-ghost use Rattle.oss_syntax.specs.Texts.{IsRefinement};
-ghost use Rattle.oss_syntax.specs.Trees.{refinement_of, component_of, components_of};
-ghost use Rattle.oss_reader.specs.Reads.{OnBroken, Sole, Nothing, SoleUntil, NothingUntil, NoMinus, IsAfterMinus};
-ghost use Rattle.oss_reader.specs.Rules.{AtComponent, IsWhole, SystemRead, HeadRead, NoHead, AtEnd, SoleText, NoText};
+//! Reads components and whole texts. Main function: `text`. Allocates the tree.
 
-use crate::cursor::{after, broken, expect, expect_name, first_mark, minus, name};
+ghost use Rattle.std.specs.Prelude.{MatchBool};
+ghost use Rattle.oss_syntax.specs.Texts.{IsRefinement};
+ghost use Rattle.oss_syntax.specs.Trees.{refinement_tree, component_tree};
+ghost use Rattle.oss_reader.specs.Ahead.{ahead};
+ghost use Rattle.oss_reader.specs.Reads.{ReadsMinus, ReadsAs, ReadsUntil};
+ghost use Rattle.oss_reader.specs.Rules.{ReadsEnd, ReadsComponents, ReadsHead, ReadsSpec, AtComponent, IsWhole, SystemRead, AtEnd};
+
+use crate::cursor::{after, broken, expect, expect_name, first_mark, is_at_end, minus, name};
 use crate::halt::Halt;
+use crate::rest::Rest;
 use crate::{interface, refinement};
 use oss_base::Span;
-use oss_syntax::{Mark, RefinementItems, SpecTree, Terminal, TreeComponent};
+use oss_syntax::{Mark, RefinementItems, SpecTree, TreeComponent};
 use std::alloc::Global;
 
 /// Whether nothing is left, or a component begins there.
-fn at_component(terminals: &[Terminal]) -> bool
-    ensures { MatchBool result (AtComponent terminals.now) (AtComponent terminals.now → ⊥) }
+fn at_component(terminals: Rest<'_>) -> bool
+    ensures { MatchBool result (AtComponent (ahead terminals.entry)) (AtComponent (ahead terminals.entry) → ⊥) }
 {
-    terminals.is_empty() || after(terminals, Mark::Component).is_some()
+    is_at_end(terminals) || after(terminals, Mark::Component).is_some()
 }
 
 /// Wants nothing to be left, or a component to begin there.
-fn ended(terminals: &[Terminal]) -> Result<(), Halt>
-    ensures { MatchResult result (λ _. AtComponent terminals.now) (λ halt. OnBroken halt (AtComponent terminals.now → ⊥)) }
+fn ended(terminals: Rest<'_>) -> Result<(), Halt>
+    ensures { ReadsEnd (ahead terminals.entry) result }
 {
     if at_component(terminals) {
         Ok(())
@@ -32,8 +34,8 @@ fn ended(terminals: &[Terminal]) -> Result<(), Halt>
 }
 
 /// The word `system`, where it stands.
-fn system<'a>(terminals: &'a [Terminal]) -> (Option<Span>, &'a [Terminal])
-    ensures { SystemRead terminals.now result.0 result.1.now }
+fn system<'a>(terminals: Rest<'a>) -> (Option<Span>, Rest<'a>)
+    ensures { SystemRead (ahead terminals.entry) result.0 (ahead result.1) }
 {
     match first_mark(terminals, Mark::System) {
         None => (None, terminals),
@@ -44,9 +46,9 @@ fn system<'a>(terminals: &'a [Terminal]) -> (Option<Span>, &'a [Terminal])
 /// The refinement, where there is one.
 fn refinement<'a>(
     alloc: Global,
-    terminals: &'a [Terminal],
-) -> Result<(Option<RefinementItems>, &'a [Terminal]), Halt>
-    ensures { MatchResult result (λ found. SoleUntil IsRefinement AtComponent terminals.now (refinement_of found.0) found.1.now) (λ halt. OnBroken halt (NothingUntil IsRefinement AtComponent terminals.now)) }
+    terminals: Rest<'a>,
+) -> Result<(Option<RefinementItems>, Rest<'a>), Halt>
+    ensures { ReadsUntil refinement_tree IsRefinement AtComponent (ahead terminals.entry) result }
 {
     match after(terminals, Mark::Refinement) {
         None => {
@@ -62,14 +64,11 @@ fn refinement<'a>(
 }
 
 /// A component, after which nothing is left or another one begins.
-fn component<'a>(
-    alloc: Global,
-    terminals: &'a [Terminal],
-) -> Result<(TreeComponent, &'a [Terminal]), Halt>
-    ensures { MatchResult result (λ found. Sole IsWhole terminals.now (component_of found.0) found.1.now) (λ halt. OnBroken halt (Nothing IsWhole terminals.now)) }
+fn component<'a>(alloc: Global, terminals: Rest<'a>) -> Result<(TreeComponent, Rest<'a>), Halt>
+    ensures { ReadsAs component_tree IsWhole (ahead terminals.entry) result }
 {
     let called = expect(terminals, Mark::Component)?;
-    let (name, named) = name(called)?;
+    let (name, named) = name(alloc, called)?;
     let (system, faced) = system(named);
     let more = expect(faced, Mark::Interface)?;
     let (interface, refined) = interface::items(alloc, more)?;
@@ -84,15 +83,15 @@ fn component<'a>(
 }
 
 /// Whether something is left.
-fn has_more(terminals: &[Terminal]) -> bool
-    ensures { MatchBool result (AtEnd terminals.now → ⊥) (AtEnd terminals.now) }
+fn has_more(terminals: Rest<'_>) -> bool
+    ensures { MatchBool result (AtEnd (ahead terminals.entry) → ⊥) (AtEnd (ahead terminals.entry)) }
 {
-    !terminals.is_empty()
+    !is_at_end(terminals)
 }
 
 /// All components.
-fn components(alloc: Global, terminals: &[Terminal]) -> Result<SpecTree, Halt>
-    ensures { MatchResult result (λ tree. SoleUntil (Many IsWhole) AtEnd terminals.now (components_of tree) []) (λ halt. OnBroken halt (NothingUntil (Many IsWhole) AtEnd terminals.now)) }
+fn components(alloc: Global, terminals: Rest<'_>) -> Result<SpecTree, Halt>
+    ensures { ReadsComponents (ahead terminals.entry) result }
 {
     let mut components = SpecTree::new(alloc);
     let mut rest = terminals;
@@ -105,8 +104,8 @@ fn components(alloc: Global, terminals: &[Terminal]) -> Result<SpecTree, Halt>
 }
 
 /// The minus, with which the terminals have to begin.
-fn expect_minus<'a>(terminals: &'a [Terminal]) -> Result<&'a [Terminal], Halt>
-    ensures { MatchResult result (λ left. IsAfterMinus terminals.now left.now) (λ halt. OnBroken halt (NoMinus terminals.now)) }
+fn expect_minus<'a>(terminals: Rest<'a>) -> Result<Rest<'a>, Halt>
+    ensures { ReadsMinus (ahead terminals.entry) result }
 {
     match minus(terminals) {
         Some((_, left)) => Ok(left),
@@ -115,8 +114,8 @@ fn expect_minus<'a>(terminals: &'a [Terminal]) -> Result<&'a [Terminal], Halt>
 }
 
 /// What is left after the line `@requires discrete-time`, where it stands.
-fn head<'a>(terminals: &'a [Terminal]) -> Result<&'a [Terminal], Halt>
-    ensures { MatchResult result (λ left. HeadRead terminals.now left.now) (λ halt. OnBroken halt (NoHead terminals.now)) }
+fn head<'a>(terminals: Rest<'a>) -> Result<Rest<'a>, Halt>
+    ensures { ReadsHead (ahead terminals.entry) result }
 {
     match after(terminals, Mark::At) {
         None => Ok(terminals),
@@ -134,8 +133,8 @@ fn head<'a>(terminals: &'a [Terminal]) -> Result<&'a [Terminal], Halt>
 }
 
 /// The whole text.
-pub fn text(alloc: Global, terminals: &[Terminal]) -> Result<SpecTree, Halt>
-    ensures { MatchResult result (λ tree. SoleText terminals.now (components_of tree)) (λ halt. OnBroken halt (NoText terminals.now)) }
+pub fn text(alloc: Global, terminals: Rest<'_>) -> Result<SpecTree, Halt>
+    ensures { ReadsSpec (ahead terminals.entry) result }
 {
     let left = head(terminals)?;
     components(alloc, left)

@@ -1,50 +1,80 @@
-ghost use Rattle.std.specs.Prelude.{◌≡◌, ◌∷◌, ℕ, List, MatchOption, MatchResult, IfOk};
-ghost use Rattle.oss_base.specs.declared.place.Span.{Span as SpanValue};
-ghost use Rattle.oss_syntax.specs.declared.terminal.Terminal.{Terminal as TerminalValue};
-ghost use Rattle.oss_syntax.specs.declared.terminal.Terminal.TheVariants as terminal;
-ghost use Rattle.oss_reader.specs.Reads.{OnBroken, IsMark, NoMark, NoName, IsNamed, NotNamed, IsNext, IsStart, IsMinus, NoMinus};
+//! The first of the terminals that are left: whether it is what is wanted there, and what is left after it. Main
+//! functions: `expect`, `name`, `operand_start`, `what_follows`. Allocates the names that it copies, and nothing else.
+
+ghost use Rattle.std.specs.Prelude.{◌≡◌, [], MatchBool, IfOk};
+ghost use Rattle.oss_reader.specs.Ahead.{ahead};
+ghost use Rattle.oss_reader.specs.Reads.{FindsFirst, FindsMark, PassesMark, FindsName, FindsMinus, ReadsMark, ReadsName, ReadsNamed, IsStart, FollowsOperand};
 
 use crate::halt::{Break, Halt};
+use crate::lead::Lead;
+use crate::rest::Rest;
+use crate::terminals::lead;
 use oss_base::Span;
-use oss_syntax::{BinaryWord, Mark, PortWord, PrefixWord, Terminal, Word};
-use port_types::NoMemory;
+use oss_syntax::{BinaryWord, Mark, PortWord, PrefixWord, Word};
+use port_types::{Name, NoMemory};
+use std::alloc::Global;
 
 /// What follows an operand.
 pub enum Next<'a> {
-    Operator(BinaryWord, Span, &'a [Terminal]),
+    Operator(BinaryWord, Span, Rest<'a>),
     Dot,
     Other,
 }
 
 /// How an operand begins.
 pub enum Start<'a> {
-    Name(&'a Word, &'a [Terminal]),
-    Numeral(u32, Span, &'a [Terminal]),
-    Truth(bool, Span, &'a [Terminal]),
-    OfPort(PortWord, Span, &'a [Terminal]),
-    Open(Span, &'a [Terminal]),
+    Name(&'a str, Span, Rest<'a>),
+    Numeral(u32, Span, Rest<'a>),
+    Truth(bool, Span, Rest<'a>),
+    OfPort(PortWord, Span, Rest<'a>),
+    Open(Span, Rest<'a>),
     Prefix(PrefixWord, Span),
     None,
 }
 
 /// The halt at the first of these terminals, or at the end of the text where there is none.
-pub fn broken(terminals: &[Terminal], deep: bool) -> Break {
+pub fn broken(terminals: Rest<'_>, deep: bool) -> Break {
     Break {
-        left: terminals.len(),
+        left: terminals.tokens.len(),
         deep,
     }
 }
 
-/// The span of this mark, and what is left after it, where the terminals begin with it.
-pub fn first_mark<'a>(terminals: &'a [Terminal], wanted: Mark) -> Option<(Span, &'a [Terminal])>
-    ensures { MatchOption result (NoMark wanted terminals.now) (λ found. terminals.now ≡ terminal.Mark wanted found.0 ∷ found.1.now) }
+/// The first terminal, and what is left after it.
+#[tactic(auto, unfolding(crate::specs::Ahead::ahead))]
+pub fn split_first<'a>(terminals: Rest<'a>) -> Option<(Lead<'a>, Rest<'a>)>
+    ensures { FindsFirst (ahead terminals.entry) result }
 {
-    match terminals.split_first() {
+    match terminals.tokens.split_first() {
+        None => None,
+        Some((first, more)) => {
+            let rest = Rest {
+                bytes: terminals.bytes,
+                tokens: more,
+            };
+            Some((lead(terminals.bytes, *first), rest))
+        }
+    }
+}
+
+/// Whether nothing is left.
+#[tactic(auto, unfolding(crate::specs::Ahead::ahead))]
+pub fn is_at_end(terminals: Rest<'_>) -> bool
+    ensures { MatchBool result (ahead terminals.entry ≡ []) (ahead terminals.entry ≡ [] → ⊥) }
+{
+    terminals.tokens.is_empty()
+}
+
+/// The span of this mark, and what is left after it, where the terminals begin with it.
+pub fn first_mark<'a>(terminals: Rest<'a>, wanted: Mark) -> Option<(Span, Rest<'a>)>
+    ensures { FindsMark wanted (ahead terminals.entry) result }
+{
+    match split_first(terminals) {
         None => None,
         Some((first, more)) => match first {
-            Terminal::Mark(mark, span) => {
-                if *mark == wanted {
-                    Some((*span, more))
+            Lead::Mark(mark, span) => {
+                if mark == wanted {
+                    Some((span, more))
                 } else {
                     None
                 }
@@ -55,8 +85,8 @@ pub fn first_mark<'a>(terminals: &'a [Terminal], wanted: Mark) -> Option<(Span, 
 }
 
 /// What is left after this mark, where the terminals begin with it.
-pub fn after<'a>(terminals: &'a [Terminal], wanted: Mark) -> Option<&'a [Terminal]>
-    ensures { MatchOption result (NoMark wanted terminals.now) (λ left. IsMark wanted terminals.now left.now) }
+pub fn after<'a>(terminals: Rest<'a>, wanted: Mark) -> Option<Rest<'a>>
+    ensures { PassesMark wanted (ahead terminals.entry) result }
 {
     match first_mark(terminals, wanted) {
         None => None,
@@ -65,8 +95,8 @@ pub fn after<'a>(terminals: &'a [Terminal], wanted: Mark) -> Option<&'a [Termina
 }
 
 /// What is left after this mark, with which the terminals have to begin.
-pub fn expect<'a>(terminals: &'a [Terminal], wanted: Mark) -> Result<&'a [Terminal], Halt>
-    ensures { MatchResult result (λ left. IsMark wanted terminals.now left.now) (λ halt. OnBroken halt (NoMark wanted terminals.now)) }
+pub fn expect<'a>(terminals: Rest<'a>, wanted: Mark) -> Result<Rest<'a>, Halt>
+    ensures { ReadsMark wanted (ahead terminals.entry) result }
 {
     match after(terminals, wanted) {
         Some(left) => Ok(left),
@@ -74,46 +104,46 @@ pub fn expect<'a>(terminals: &'a [Terminal], wanted: Mark) -> Result<&'a [Termin
     }
 }
 
-/// A copy of a name.
-pub fn copy_word(word: &Word) -> Result<Word, NoMemory>
-    ensures { IfOk result (λ copy. copy ≡ word.now) }
+/// The name that is written there.
+pub fn copy_word(alloc: Global, text: &str, span: Span) -> Result<Word, NoMemory>
+    ensures { IfOk result (λ word. word ≡ record { text = text.now; span = span }) }
 {
     Ok(Word {
-        text: word.text.copy()?,
-        span: word.span,
+        text: Name::new(alloc, text)?,
+        span,
     })
 }
 
-/// The name with which the terminals begin, and what is left after it.
-pub fn first_name<'a>(terminals: &'a [Terminal]) -> Option<(&'a Word, &'a [Terminal])>
-    ensures { MatchOption result (NoName terminals.now) (λ found. terminals.now ≡ terminal.Name found.0.now ∷ found.1.now) }
+/// The text and span of the name with which the terminals begin, and what is left after it.
+pub fn first_name<'a>(terminals: Rest<'a>) -> Option<(&'a str, Span, Rest<'a>)>
+    ensures { FindsName (ahead terminals.entry) result }
 {
-    match terminals.split_first() {
+    match split_first(terminals) {
         None => None,
         Some((first, more)) => match first {
-            Terminal::Name(word) => Some((word, more)),
+            Lead::Name(text, span) => Some((text, span, more)),
             _ => None,
         },
     }
 }
 
 /// A copy of the name with which the terminals have to begin, and what is left after it.
-pub fn name<'a>(terminals: &'a [Terminal]) -> Result<(Word, &'a [Terminal]), Halt>
-    ensures { MatchResult result (λ found. terminals.now ≡ terminal.Name found.0 ∷ found.1.now) (λ halt. OnBroken halt (NoName terminals.now)) }
+pub fn name<'a>(alloc: Global, terminals: Rest<'a>) -> Result<(Word, Rest<'a>), Halt>
+    ensures { ReadsName (ahead terminals.entry) result }
 {
     match first_name(terminals) {
-        Some((word, left)) => Ok((copy_word(word)?, left)),
+        Some((text, span, left)) => Ok((copy_word(alloc, text, span)?, left)),
         None => Err(Halt::Broken(broken(terminals, false))),
     }
 }
 
 /// What is left after a name of this text, with which the terminals have to begin.
-pub fn expect_name<'a>(terminals: &'a [Terminal], text: &str) -> Result<&'a [Terminal], Halt>
-    ensures { MatchResult result (λ left. IsNamed text.now terminals.now left.now) (λ halt. OnBroken halt (NotNamed text.now terminals.now)) }
+pub fn expect_name<'a>(terminals: Rest<'a>, wanted: &str) -> Result<Rest<'a>, Halt>
+    ensures { ReadsNamed wanted.now (ahead terminals.entry) result }
 {
     match first_name(terminals) {
-        Some((word, left)) => {
-            if word.text.as_str() == text {
+        Some((text, _, left)) => {
+            if text == wanted {
                 Ok(left)
             } else {
                 Err(Halt::Broken(broken(terminals, false)))
@@ -124,15 +154,15 @@ pub fn expect_name<'a>(terminals: &'a [Terminal], text: &str) -> Result<&'a [Ter
 }
 
 /// The minus with which the terminals begin, and what is left after it.
-pub fn minus<'a>(terminals: &'a [Terminal]) -> Option<(Span, &'a [Terminal])>
-    ensures { MatchOption result (NoMinus terminals.now) (λ found. IsMinus found.0 terminals.now found.1.now) }
+pub fn minus<'a>(terminals: Rest<'a>) -> Option<(Span, Rest<'a>)>
+    ensures { FindsMinus (ahead terminals.entry) result }
 {
-    match terminals.split_first() {
+    match split_first(terminals) {
         None => None,
         Some((first, more)) => match first {
-            Terminal::Binary(word, span) => {
-                if *word == BinaryWord::Minus {
-                    Some((*span, more))
+            Lead::Binary(word, span) => {
+                if word == BinaryWord::Minus {
+                    Some((span, more))
                 } else {
                     None
                 }
@@ -143,15 +173,15 @@ pub fn minus<'a>(terminals: &'a [Terminal]) -> Option<(Span, &'a [Terminal])>
 }
 
 /// What follows an operand.
-pub fn what_follows<'a>(terminals: &'a [Terminal]) -> Next<'a>
-    ensures { IsNext terminals.now result }
+pub fn what_follows<'a>(terminals: Rest<'a>) -> Next<'a>
+    ensures { FollowsOperand (ahead terminals.entry) result }
 {
-    match terminals.split_first() {
+    match split_first(terminals) {
         None => Next::Other,
         Some((first, more)) => match first {
-            Terminal::Binary(word, span) => Next::Operator(*word, *span, more),
-            Terminal::Mark(mark, _) => {
-                if *mark == Mark::Dot {
+            Lead::Binary(word, span) => Next::Operator(word, span, more),
+            Lead::Mark(mark, _) => {
+                if mark == Mark::Dot {
                     Next::Dot
                 } else {
                     Next::Other
@@ -163,28 +193,33 @@ pub fn what_follows<'a>(terminals: &'a [Terminal]) -> Next<'a>
 }
 
 /// How an operand begins.
-pub fn operand_start<'a>(terminals: &'a [Terminal]) -> Start<'a>
-    ensures { IsStart terminals.now result }
+pub fn operand_start<'a>(terminals: Rest<'a>) -> Start<'a>
+    ensures { IsStart (ahead terminals.entry) result }
 {
-    match terminals.split_first() {
+    match split_first(terminals) {
         None => Start::None,
         Some((first, more)) => match first {
-            Terminal::Name(word) => Start::Name(word, more),
-            Terminal::Numeral(value, span) => Start::Numeral(*value, *span, more),
-            Terminal::Truth(truth, span) => Start::Truth(*truth, *span, more),
-            Terminal::OfPort(word, span) => Start::OfPort(*word, *span, more),
-            Terminal::Prefix(word, span) => Start::Prefix(*word, *span),
-            Terminal::Binary(_, _) => match minus(terminals) {
-                Some((span, _)) => Start::Prefix(PrefixWord::Minus, span),
-                None => Start::None,
-            },
-            Terminal::Mark(_, _) => match first_mark(terminals, Mark::Open) {
-                Some((span, inside)) => Start::Open(span, inside),
-                None => match first_mark(terminals, Mark::In) {
-                    Some((span, _)) => Start::Prefix(PrefixWord::Future, span),
-                    None => Start::None,
-                },
-            },
+            Lead::Name(text, span) => Start::Name(text, span, more),
+            Lead::Numeral(value, span) => Start::Numeral(value, span, more),
+            Lead::Truth(truth, span) => Start::Truth(truth, span, more),
+            Lead::OfPort(word, span) => Start::OfPort(word, span, more),
+            Lead::Prefix(word, span) => Start::Prefix(word, span),
+            Lead::Binary(word, span) => {
+                if word == BinaryWord::Minus {
+                    Start::Prefix(PrefixWord::Minus, span)
+                } else {
+                    Start::None
+                }
+            }
+            Lead::Mark(mark, span) => {
+                if mark == Mark::Open {
+                    Start::Open(span, more)
+                } else if mark == Mark::In {
+                    Start::Prefix(PrefixWord::Future, span)
+                } else {
+                    Start::None
+                }
+            }
         },
     }
 }

@@ -1,26 +1,27 @@
-ghost use Rattle.std.specs.Prelude.{◌≡◌, ◌∷◌, ◌≤◌, ◌<◌, ℕ, List, MatchResult};
+//! Reads expressions by precedence climbing, within the limit on height. Main function: `closed`. Allocates the tree.
+
+ghost use Rattle.std.specs.Prelude.{◌≡◌, ◌∷◌, ◌≤◌};
 ghost use Rattle.oss_syntax.specs.declared.terminal.Mark.TheVariants as mark;
-ghost use Rattle.oss_syntax.specs.declared.terminal.Terminal.{Terminal as TerminalValue};
-ghost use Rattle.oss_syntax.specs.declared.terminal.Terminal.TheVariants as terminal;
+ghost use Rattle.oss_syntax.specs.Alphabet as terminal;
+ghost use Rattle.oss_base.specs.Limits.{most_height};
 ghost use Rattle.oss_syntax.specs.Expressions.{tree, prefix_level};
-ghost use Rattle.oss_syntax.specs.Formulas.{SpellsPrefix, Closed};
-ghost use Rattle.oss_reader.specs.Phrases.{prefix_of};
-ghost use Rattle.oss_reader.specs.Reads.{OnBroken, Sole, Nothing, ReadsBegin, ReadsPhrase, ReadsStep, IsStart};
+ghost use Rattle.oss_syntax.specs.Formulas.{Closed};
+ghost use Rattle.oss_reader.specs.Ahead.{ahead};
+ghost use Rattle.oss_reader.specs.Reads.{ReadsPrefix, ReadsAs, ReadsBegin, ReadsPhrase, ReadsStep, IsStart};
 
 use crate::cursor::{
-    Next, Start, after, broken, copy_word, expect, expect_name, name, operand_start, what_follows,
+    Next, Start, after, broken, copy_word, expect, expect_name, name, operand_start, split_first,
+    what_follows,
 };
 use crate::halt::Halt;
-use crate::part::{
-    Part, binary_part, brackets_part, dotted_part, name_part, numeral_part, of_port_part,
-    prefix_part, truth_part,
+use crate::measured::{
+    MeasuredExpr, binary_expr, brackets_expr, dotted_expr, name_expr, numeral_expr, of_port_expr,
+    prefix_expr, truth_expr,
 };
-use oss_base::Span;
-use oss_syntax::{Expr, Mark, PortWord, PrefixWord, Role, Terminal, Word};
+use crate::rest::Rest;
+use oss_base::{MOST_HEIGHT, Span};
+use oss_syntax::{Expr, Mark, PortWord, PrefixWord, Role};
 use std::alloc::Global;
-
-/// The height that a whole expression may have.
-const HIGHEST: usize = 128;
 
 /// The loosest level.
 const LOOSEST: usize = 10;
@@ -28,31 +29,33 @@ const LOOSEST: usize = 10;
 /// What one turn of the reading of an expression comes to: one operator more, or the whole.
 #[derive(Debug)]
 pub enum Step<'a> {
-    More(Part, &'a [Terminal]),
-    Done(Part, &'a [Terminal]),
+    More(MeasuredExpr, Rest<'a>),
+    Done(MeasuredExpr, Rest<'a>),
 }
 
 /// A name that begins an operand, dotted or not.
 fn named<'a>(
+    alloc: Global,
     role: Role,
     room: usize,
     max: usize,
-    terminals: &'a [Terminal],
-    word: &'a Word,
-    more: &'a [Terminal],
-) -> Result<(Part, &'a [Terminal]), Halt>
+    terminals: Rest<'a>,
+    text: &'a str,
+    span: Span,
+    more: Rest<'a>,
+) -> Result<(MeasuredExpr, Rest<'a>), Halt>
     requires room { 1 ≤ room }
     requires max { 1 ≤ max }
-    requires begins { terminals.now ≡ terminal.Name word.now ∷ more.now }
-    ensures { ReadsBegin role room max terminals.now result }
+    requires begins { ahead terminals ≡ terminal.Name (record { text = text.now; span = span }) ∷ ahead more }
+    ensures { ReadsBegin role room max (ahead terminals.entry) result }
 {
     match role {
-        Role::Formula => Ok((name_part(copy_word(word)?), more)),
+        Role::Formula => Ok((name_expr(copy_word(alloc, text, span)?), more)),
         Role::State => match after(more, Mark::Dot) {
-            None => Ok((name_part(copy_word(word)?), more)),
+            None => Ok((name_expr(copy_word(alloc, text, span)?), more)),
             Some(left) => {
-                let (port, left) = name(left)?;
-                Ok((dotted_part(copy_word(word)?, port), left))
+                let (port, left) = name(alloc, left)?;
+                Ok((dotted_expr(copy_word(alloc, text, span)?, port), left))
             }
         },
     }
@@ -60,38 +63,35 @@ fn named<'a>(
 
 /// A word that wants a port in brackets, and these.
 fn of_port<'a>(
+    alloc: Global,
     role: Role,
     room: usize,
     max: usize,
-    terminals: &'a [Terminal],
+    terminals: Rest<'a>,
     word: PortWord,
     span: Span,
-    more: &'a [Terminal],
-) -> Result<(Part, &'a [Terminal]), Halt>
+    more: Rest<'a>,
+) -> Result<(MeasuredExpr, Rest<'a>), Halt>
     requires room { 1 ≤ room }
     requires max { 1 ≤ max }
-    requires begins { terminals.now ≡ terminal.OfPort word span ∷ more.now }
-    ensures { ReadsBegin role room max terminals.now result }
+    requires begins { ahead terminals ≡ terminal.OfPort word span ∷ ahead more }
+    ensures { ReadsBegin role room max (ahead terminals.entry) result }
 {
     match role {
         Role::State => Err(Halt::Broken(broken(terminals, false))),
         Role::Formula => {
             let opened = expect(more, Mark::Open)?;
-            let (port, named) = name(opened)?;
+            let (port, named) = name(alloc, opened)?;
             let closed = expect(named, Mark::Close)?;
-            Ok((of_port_part(word, port, span), closed))
+            Ok((of_port_expr(word, port, span), closed))
         }
     }
 }
 
 /// What is left after a word before an operand.
-fn after_prefix<'a>(
-    terminals: &'a [Terminal],
-    word: PrefixWord,
-    span: Span,
-) -> Result<&'a [Terminal], Halt>
-    requires { IsStart terminals.now (Start.Prefix word span) }
-    ensures { MatchResult result (λ left. SpellsPrefix terminals.now word span left.now) (λ halt. OnBroken halt ((left : List TerminalValue) → SpellsPrefix terminals.now word span left → ⊥)) }
+fn after_prefix<'a>(terminals: Rest<'a>, word: PrefixWord, span: Span) -> Result<Rest<'a>, Halt>
+    requires { IsStart (ahead terminals) (Start.Prefix word span) }
+    ensures { ReadsPrefix word span (ahead terminals.entry) result }
 {
     match after(terminals, Mark::In) {
         Some(more) => {
@@ -99,7 +99,10 @@ fn after_prefix<'a>(
             let left = expect_name(named, "future")?;
             Ok(left)
         }
-        None => Ok(&terminals[1..]),
+        None => match split_first(terminals) {
+            Some((_, left)) => Ok(left),
+            None => Err(Halt::Broken(broken(terminals, false))),
+        },
     }
 }
 
@@ -110,22 +113,22 @@ fn brackets<'a>(
     role: Role,
     room: usize,
     max: usize,
-    terminals: &'a [Terminal],
+    terminals: Rest<'a>,
     span: Span,
-    more: &'a [Terminal],
-) -> Result<(Part, &'a [Terminal]), Halt>
+    more: Rest<'a>,
+) -> Result<(MeasuredExpr, Rest<'a>), Halt>
     requires room { 1 ≤ room }
-    requires highest { room ≤ 128 }
+    requires highest { room ≤ most_height }
     requires max { 1 ≤ max }
-    requires begins { terminals.now ≡ terminal.Mark mark.Open span ∷ more.now }
-    ensures { ReadsBegin role room max terminals.now result }
+    requires begins { ahead terminals ≡ terminal.Mark mark.Open span ∷ ahead more }
+    ensures { ReadsBegin role room max (ahead terminals.entry) result }
 {
     if room < 2 {
         return Err(Halt::Broken(broken(terminals, true)));
     }
     let (inside, rest) = expression(alloc, role, room - 1, LOOSEST, more)?;
     let closed = expect(rest, Mark::Close)?;
-    Ok((brackets_part(alloc, inside, span)?, closed))
+    Ok((brackets_expr(alloc, inside, span)?, closed))
 }
 
 /// A word before an operand, and the operand.
@@ -135,17 +138,17 @@ fn prefixed<'a>(
     role: Role,
     room: usize,
     max: usize,
-    terminals: &'a [Terminal],
+    terminals: Rest<'a>,
     word: PrefixWord,
     level: usize,
     span: Span,
-) -> Result<(Part, &'a [Terminal]), Halt>
+) -> Result<(MeasuredExpr, Rest<'a>), Halt>
     requires room { 1 ≤ room }
-    requires highest { room ≤ 128 }
+    requires highest { room ≤ most_height }
     requires max { 1 ≤ max }
     requires level { level ≡ prefix_level word }
-    requires begins { IsStart terminals.now (Start.Prefix word span) }
-    ensures { ReadsBegin role room max terminals.now result }
+    requires begins { IsStart (ahead terminals) (Start.Prefix word span) }
+    ensures { ReadsBegin role room max (ahead terminals.entry) result }
 {
     if !word.is_allowed(role) {
         return Err(Halt::Broken(broken(terminals, false)));
@@ -158,7 +161,7 @@ fn prefixed<'a>(
     }
     let more = after_prefix(terminals, word, span)?;
     let (operand, rest) = expression(alloc, role, room - 1, level, more)?;
-    Ok((prefix_part(alloc, word, operand, span)?, rest))
+    Ok((prefix_expr(alloc, word, operand, span)?, rest))
 }
 
 /// The first operand of an expression.
@@ -168,18 +171,22 @@ fn operand<'a>(
     role: Role,
     room: usize,
     max: usize,
-    terminals: &'a [Terminal],
-) -> Result<(Part, &'a [Terminal]), Halt>
+    terminals: Rest<'a>,
+) -> Result<(MeasuredExpr, Rest<'a>), Halt>
     requires room { 1 ≤ room }
-    requires highest { room ≤ 128 }
+    requires highest { room ≤ most_height }
     requires max { 1 ≤ max }
-    ensures { ReadsBegin role room max terminals.now result }
+    ensures { ReadsBegin role room max (ahead terminals.entry) result }
 {
     match operand_start(terminals) {
-        Start::Name(word, more) => named(role, room, max, terminals, word, more),
-        Start::Numeral(value, span, more) => Ok((numeral_part(value, span), more)),
-        Start::Truth(truth, span, more) => Ok((truth_part(truth, span), more)),
-        Start::OfPort(word, span, more) => of_port(role, room, max, terminals, word, span, more),
+        Start::Name(text, span, more) => {
+            named(alloc, role, room, max, terminals, text, span, more)
+        }
+        Start::Numeral(value, span, more) => Ok((numeral_expr(value, span), more)),
+        Start::Truth(truth, span, more) => Ok((truth_expr(truth, span), more)),
+        Start::OfPort(word, span, more) => {
+            of_port(alloc, role, room, max, terminals, word, span, more)
+        }
         Start::Open(span, more) => brackets(alloc, role, room, max, terminals, span, more),
         Start::Prefix(word, span) => {
             let level = word.level();
@@ -196,12 +203,12 @@ fn read_step<'a>(
     role: Role,
     room: usize,
     max: usize,
-    left: Part,
-    rest: &'a [Terminal],
+    left: MeasuredExpr,
+    rest: Rest<'a>,
 ) -> Result<Step<'a>, Halt>
     requires room { 1 ≤ room }
-    requires highest { room ≤ 128 }
-    ensures { ReadsStep role room max (tree left.expr) rest.now result }
+    requires highest { room ≤ most_height }
+    ensures { ReadsStep role room max (tree left.expr) (ahead rest.entry) result }
 {
     match what_follows(rest) {
         Next::Other => Ok(Step::Done(left, rest)),
@@ -220,7 +227,7 @@ fn read_step<'a>(
                 return Err(Halt::Broken(broken(rest, true)));
             }
             let (right, after) = expression(alloc, role, room - 1, word.right_level(), more)?;
-            Ok(Step::More(binary_part(alloc, word, left, right, span)?, after))
+            Ok(Step::More(binary_expr(alloc, word, left, right, span)?, after))
         }
     }
 }
@@ -232,12 +239,12 @@ fn expression<'a>(
     role: Role,
     room: usize,
     max: usize,
-    terminals: &'a [Terminal],
-) -> Result<(Part, &'a [Terminal]), Halt>
+    terminals: Rest<'a>,
+) -> Result<(MeasuredExpr, Rest<'a>), Halt>
     requires room { 1 ≤ room }
-    requires highest { room ≤ 128 }
+    requires highest { room ≤ most_height }
     requires max { 1 ≤ max }
-    ensures { ReadsPhrase role room max terminals.now result }
+    ensures { ReadsPhrase role room max (ahead terminals.entry) result }
 {
     let (mut left, mut rest) = operand(alloc, role, room, max, terminals)?;
     'operators: loop {
@@ -252,14 +259,10 @@ fn expression<'a>(
 }
 
 /// A whole expression and the semicolon after it.
-pub fn closed<'a>(
-    alloc: Global,
-    role: Role,
-    terminals: &'a [Terminal],
-) -> Result<(Expr, &'a [Terminal]), Halt>
-    ensures { MatchResult result (λ found. Sole (Closed role) terminals.now (tree found.0) found.1.now) (λ halt. OnBroken halt (Nothing (Closed role) terminals.now)) }
+pub fn closed<'a>(alloc: Global, role: Role, terminals: Rest<'a>) -> Result<(Expr, Rest<'a>), Halt>
+    ensures { ReadsAs tree (Closed role) (ahead terminals.entry) result }
 {
-    let (part, rest) = expression(alloc, role, HIGHEST, LOOSEST, terminals)?;
+    let (part, rest) = expression(alloc, role, MOST_HEIGHT, LOOSEST, terminals)?;
     let left = expect(rest, Mark::Semicolon)?;
     Ok((part.expr, left))
 }

@@ -1,3 +1,5 @@
+//! Why the reading halted. Main item: `Halt`. Touches nothing.
+
 use port_types::NoMemory;
 use std::alloc::{AllocError, AllocFailed};
 

@@ -1,23 +1,24 @@
-ghost use Rattle.std.specs.Prelude.{◌≡◌, ◌∷◌, map, MatchResult, MatchBool};
-ghost use Rattle.oss_syntax.specs.declared.terminal.Mark.TheVariants as mark;
-ghost use Rattle.oss_syntax.specs.declared.terminal.Terminal.TheVariants as terminal;
-ghost use Rattle.oss_syntax.specs.Expressions.{tree};
+//! Reads the items of an interface. Main function: `items`. Allocates the tree.
+
+ghost use Rattle.std.specs.Prelude.{map};
 ghost use Rattle.oss_syntax.specs.Steps.{Many};
 ghost use Rattle.oss_syntax.specs.Items.{IsItem};
-ghost use Rattle.oss_syntax.specs.Trees.{item_of};
-ghost use Rattle.oss_reader.specs.Reads.{OnBroken, Sole, Nothing, SoleUntil, NothingUntil};
-ghost use Rattle.oss_reader.specs.Rules.{IsPort, IsContract, NoItem, PortItem};
+ghost use Rattle.oss_syntax.specs.Trees.{item_tree};
+ghost use Rattle.oss_reader.specs.Ahead.{ahead};
+ghost use Rattle.oss_reader.specs.Reads.{ReadsAs, Reads, ReadsUntil};
+ghost use Rattle.oss_reader.specs.Rules.{BeginsItem, contract_tree, ReadsPort, IsPort, IsContract, NoItem};
 
 use crate::cursor::{after, expect, name};
 use crate::expressions::closed;
 use crate::halt::Halt;
+use crate::rest::Rest;
 use crate::types::type_tree;
-use oss_syntax::{Expr, InterfaceItem, InterfaceItems, Mark, Role, Terminal, TypeTree, Word};
+use oss_syntax::{Expr, InterfaceItem, InterfaceItems, Mark, Role, TypeTree, Word};
 use std::alloc::Global;
 
 /// Whether an item of an interface begins there.
-fn begins_item(terminals: &[Terminal]) -> bool
-    ensures { MatchBool result (NoItem terminals.now → ⊥) (NoItem terminals.now) }
+fn begins_item(terminals: Rest<'_>) -> bool
+    ensures { BeginsItem (ahead terminals.entry) result }
 {
     after(terminals, Mark::Input).is_some()
         || after(terminals, Mark::Output).is_some()
@@ -25,14 +26,11 @@ fn begins_item(terminals: &[Terminal]) -> bool
 }
 
 /// A port's name and type, after its direction.
-fn port<'a>(
-    alloc: Global,
-    terminals: &'a [Terminal],
-) -> Result<((Word, TypeTree), &'a [Terminal]), Halt>
-    ensures { MatchResult result (λ found. Sole IsPort terminals.now found.0 found.1.now) (λ halt. OnBroken halt (Nothing IsPort terminals.now)) }
+fn port<'a>(alloc: Global, terminals: Rest<'a>) -> Result<((Word, TypeTree), Rest<'a>), Halt>
+    ensures { Reads IsPort (ahead terminals.entry) result }
 {
     let called = expect(terminals, Mark::Port)?;
-    let (name, typed) = name(called)?;
+    let (name, typed) = name(alloc, called)?;
     let more = expect(typed, Mark::Colon)?;
     let (kind, closed) = type_tree(alloc, more)?;
     let left = expect(closed, Mark::Semicolon)?;
@@ -40,13 +38,10 @@ fn port<'a>(
 }
 
 /// A contract's name, assumption and guarantee, after its first word.
-fn contract<'a>(
-    alloc: Global,
-    terminals: &'a [Terminal],
-) -> Result<((Word, Expr, Expr), &'a [Terminal]), Halt>
-    ensures { MatchResult result (λ found. Sole IsContract terminals.now (found.0.0, tree found.0.1, tree found.0.2) found.1.now) (λ halt. OnBroken halt (Nothing IsContract terminals.now)) }
+fn contract<'a>(alloc: Global, terminals: Rest<'a>) -> Result<((Word, Expr, Expr), Rest<'a>), Halt>
+    ensures { ReadsAs contract_tree IsContract (ahead terminals.entry) result }
 {
-    let (name, assuming) = name(terminals)?;
+    let (name, assuming) = name(alloc, terminals)?;
     let assumed = expect(assuming, Mark::Assume)?;
     let first = expect(assumed, Mark::Colon)?;
     let (assume, guaranteeing) = closed(alloc, Role::Formula, first)?;
@@ -60,20 +55,17 @@ fn contract<'a>(
 fn port_item<'a>(
     alloc: Global,
     input: bool,
-    terminals: &'a [Terminal],
-) -> Result<(InterfaceItem, &'a [Terminal]), Halt>
-    ensures { MatchResult result (λ found. PortItem input terminals.now (item_of found.0) found.1.now) (λ halt. OnBroken halt (Nothing IsPort terminals.now)) }
+    terminals: Rest<'a>,
+) -> Result<(InterfaceItem, Rest<'a>), Halt>
+    ensures { ReadsPort input (ahead terminals.entry) result }
 {
     let ((name, kind), left) = port(alloc, terminals)?;
     Ok((InterfaceItem::Port { input, name, kind }, left))
 }
 
 /// An item of an interface.
-fn item<'a>(
-    alloc: Global,
-    terminals: &'a [Terminal],
-) -> Result<(InterfaceItem, &'a [Terminal]), Halt>
-    ensures { MatchResult result (λ found. Sole IsItem terminals.now (item_of found.0) found.1.now) (λ halt. OnBroken halt (Nothing IsItem terminals.now)) }
+fn item<'a>(alloc: Global, terminals: Rest<'a>) -> Result<(InterfaceItem, Rest<'a>), Halt>
+    ensures { ReadsAs item_tree IsItem (ahead terminals.entry) result }
 {
     match after(terminals, Mark::Input) {
         Some(ported) => port_item(alloc, true, ported),
@@ -94,11 +86,8 @@ fn item<'a>(
 }
 
 /// The items of an interface.
-pub fn items<'a>(
-    alloc: Global,
-    terminals: &'a [Terminal],
-) -> Result<(InterfaceItems, &'a [Terminal]), Halt>
-    ensures { MatchResult result (λ found. SoleUntil (Many IsItem) NoItem terminals.now (map item_of found.0) found.1.now) (λ halt. OnBroken halt (NothingUntil (Many IsItem) NoItem terminals.now)) }
+pub fn items<'a>(alloc: Global, terminals: Rest<'a>) -> Result<(InterfaceItems, Rest<'a>), Halt>
+    ensures { ReadsUntil (map item_tree) (Many IsItem) NoItem (ahead terminals.entry) result }
 {
     let mut items = InterfaceItems::new(alloc);
     let mut rest = terminals;

@@ -6,8 +6,10 @@ mod cursor;
 mod expressions;
 mod halt;
 mod interface;
-mod part;
+mod lead;
+mod measured;
 mod refinement;
+mod rest;
 mod terminals;
 #[cfg(test)]
 mod tests;

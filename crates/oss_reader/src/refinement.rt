@@ -1,25 +1,24 @@
-ghost use Rattle.std.specs.Prelude.{◌≡◌, ◌∷◌, map, MatchResult, MatchBool};
-ghost use Rattle.oss_syntax.specs.declared.terminal.Mark.TheVariants as mark;
-ghost use Rattle.oss_syntax.specs.declared.terminal.Terminal.TheVariants as terminal;
-ghost use Rattle.oss_syntax.specs.Expressions.{tree};
+//! Reads the items of a refinement. Main function: `items`. Allocates the tree.
+
 ghost use Rattle.oss_syntax.specs.Steps.{Many};
-ghost use Rattle.oss_syntax.specs.Items.{IsTarget, IsPart, IsNextPart, IsParts, IsRefinementPart};
-ghost use Rattle.oss_syntax.specs.Trees.{part_of};
-ghost use Rattle.oss_reader.specs.Reads.{OnBroken, Sole, Nothing, SoleUntil, NothingUntil, NoMark};
-ghost use Rattle.oss_reader.specs.Rules.{IsSub, IsConnection, IsRefined, NoPart, FurtherParts};
+ghost use Rattle.oss_syntax.specs.Items.{IsTarget, IsPart, IsParts, IsRefinementItem};
+ghost use Rattle.oss_syntax.specs.Trees.{refinement_item_tree};
+ghost use Rattle.oss_reader.specs.Ahead.{ahead};
+ghost use Rattle.oss_reader.specs.Reads.{ReadsAs, Reads, ReadsUntil};
+ghost use Rattle.oss_reader.specs.Rules.{BeginsRefinementItem, connection_tree, refinement_trees, ReadsFurtherParts, IsSub, IsConnection, IsRefined, NoRefinementItem};
 
 use crate::cursor::{after, expect, name};
 use crate::expressions::closed;
 use crate::halt::Halt;
+use crate::rest::Rest;
 use oss_syntax::{
-    Expr, Mark, PartWord, PartWords, RefinementItem, RefinementItems, Role, TargetTree, Terminal,
-    Word,
+    Expr, Mark, PartWord, PartWords, RefinementItem, RefinementItems, Role, TargetTree, Word,
 };
 use std::alloc::Global;
 
 /// Whether an item of a refinement begins there.
-fn begins_part(terminals: &[Terminal]) -> bool
-    ensures { MatchBool result (NoPart terminals.now → ⊥) (NoPart terminals.now) }
+fn begins_refinement_item(terminals: Rest<'_>) -> bool
+    ensures { BeginsRefinementItem (ahead terminals.entry) result }
 {
     after(terminals, Mark::Sub).is_some()
         || after(terminals, Mark::Connection).is_some()
@@ -27,24 +26,24 @@ fn begins_part(terminals: &[Terminal]) -> bool
 }
 
 /// A subcomponent's name and component, after its first word.
-fn sub<'a>(terminals: &'a [Terminal]) -> Result<((Word, Word), &'a [Terminal]), Halt>
-    ensures { MatchResult result (λ found. Sole IsSub terminals.now found.0 found.1.now) (λ halt. OnBroken halt (Nothing IsSub terminals.now)) }
+fn sub<'a>(alloc: Global, terminals: Rest<'a>) -> Result<((Word, Word), Rest<'a>), Halt>
+    ensures { Reads IsSub (ahead terminals.entry) result }
 {
-    let (sub, made) = name(terminals)?;
+    let (sub, made) = name(alloc, terminals)?;
     let more = expect(made, Mark::Colon)?;
-    let (component, closed) = name(more)?;
+    let (component, closed) = name(alloc, more)?;
     let left = expect(closed, Mark::Semicolon)?;
     Ok(((sub, component), left))
 }
 
 /// The target of a connection and the sign after it.
-fn target<'a>(terminals: &'a [Terminal]) -> Result<(TargetTree, &'a [Terminal]), Halt>
-    ensures { MatchResult result (λ found. Sole IsTarget terminals.now found.0 found.1.now) (λ halt. OnBroken halt (Nothing IsTarget terminals.now)) }
+fn target<'a>(alloc: Global, terminals: Rest<'a>) -> Result<(TargetTree, Rest<'a>), Halt>
+    ensures { Reads IsTarget (ahead terminals.entry) result }
 {
-    let (first, more) = name(terminals)?;
+    let (first, more) = name(alloc, terminals)?;
     match after(more, Mark::Dot) {
         Some(dotted) => {
-            let (port, assigned) = name(dotted)?;
+            let (port, assigned) = name(alloc, dotted)?;
             let left = expect(assigned, Mark::Assign)?;
             Ok((TargetTree::OfSub(first, port), left))
         }
@@ -58,22 +57,22 @@ fn target<'a>(terminals: &'a [Terminal]) -> Result<(TargetTree, &'a [Terminal]),
 /// A connection's target and source, after its first word.
 fn connection<'a>(
     alloc: Global,
-    terminals: &'a [Terminal],
-) -> Result<((TargetTree, Expr), &'a [Terminal]), Halt>
-    ensures { MatchResult result (λ found. Sole IsConnection terminals.now (found.0.0, tree found.0.1) found.1.now) (λ halt. OnBroken halt (Nothing IsConnection terminals.now)) }
+    terminals: Rest<'a>,
+) -> Result<((TargetTree, Expr), Rest<'a>), Halt>
+    ensures { ReadsAs connection_tree IsConnection (ahead terminals.entry) result }
 {
-    let (target, more) = target(terminals)?;
+    let (target, more) = target(alloc, terminals)?;
     let (source, left) = closed(alloc, Role::State, more)?;
     Ok(((target, source), left))
 }
 
 /// A contract of a subcomponent.
-fn part<'a>(terminals: &'a [Terminal]) -> Result<(PartWord, &'a [Terminal]), Halt>
-    ensures { MatchResult result (λ found. Sole IsPart terminals.now found.0 found.1.now) (λ halt. OnBroken halt (Nothing IsPart terminals.now)) }
+fn part<'a>(alloc: Global, terminals: Rest<'a>) -> Result<(PartWord, Rest<'a>), Halt>
+    ensures { Reads IsPart (ahead terminals.entry) result }
 {
-    let (sub, dotted) = name(terminals)?;
+    let (sub, dotted) = name(alloc, terminals)?;
     let more = expect(dotted, Mark::Dot)?;
-    let (contract, left) = name(more)?;
+    let (contract, left) = name(alloc, more)?;
     Ok((PartWord { sub, contract }, left))
 }
 
@@ -81,9 +80,9 @@ fn part<'a>(terminals: &'a [Terminal]) -> Result<(PartWord, &'a [Terminal]), Hal
 fn further_parts<'a>(
     alloc: Global,
     first: PartWord,
-    terminals: &'a [Terminal],
-) -> Result<(PartWords, &'a [Terminal]), Halt>
-    ensures { MatchResult result (λ found. FurtherParts first terminals.now found.0 found.1.now) (λ halt. OnBroken halt (NothingUntil (Many IsNextPart) (NoMark mark.Comma) terminals.now)) }
+    terminals: Rest<'a>,
+) -> Result<(PartWords, Rest<'a>), Halt>
+    ensures { ReadsFurtherParts first (ahead terminals.entry) result }
 {
     let mut parts = PartWords::new(alloc);
     parts.push(first)?;
@@ -92,7 +91,7 @@ fn further_parts<'a>(
         match after(rest, Mark::Comma) {
             None => return Ok((parts, rest)),
             Some(more) => {
-                let (next, left) = part(more)?;
+                let (next, left) = part(alloc, more)?;
                 parts.push(next)?;
                 rest = left;
             }
@@ -101,38 +100,32 @@ fn further_parts<'a>(
 }
 
 /// The contracts that refine one, and the semicolon after them.
-fn parts<'a>(alloc: Global, terminals: &'a [Terminal]) -> Result<(PartWords, &'a [Terminal]), Halt>
-    ensures { MatchResult result (λ found. Sole IsParts terminals.now found.0 found.1.now) (λ halt. OnBroken halt (Nothing IsParts terminals.now)) }
+fn parts<'a>(alloc: Global, terminals: Rest<'a>) -> Result<(PartWords, Rest<'a>), Halt>
+    ensures { Reads IsParts (ahead terminals.entry) result }
 {
-    let (first, more) = part(terminals)?;
+    let (first, more) = part(alloc, terminals)?;
     let (parts, rest) = further_parts(alloc, first, more)?;
     let left = expect(rest, Mark::Semicolon)?;
     Ok((parts, left))
 }
 
 /// A refined contract and those that refine it, after its first word.
-fn refined<'a>(
-    alloc: Global,
-    terminals: &'a [Terminal],
-) -> Result<((Word, PartWords), &'a [Terminal]), Halt>
-    ensures { MatchResult result (λ found. Sole IsRefined terminals.now found.0 found.1.now) (λ halt. OnBroken halt (Nothing IsRefined terminals.now)) }
+fn refined<'a>(alloc: Global, terminals: Rest<'a>) -> Result<((Word, PartWords), Rest<'a>), Halt>
+    ensures { Reads IsRefined (ahead terminals.entry) result }
 {
-    let (name, by) = name(terminals)?;
+    let (name, by) = name(alloc, terminals)?;
     let more = expect(by, Mark::RefinedBy)?;
     let (parts, left) = parts(alloc, more)?;
     Ok(((name, parts), left))
 }
 
 /// An item of a refinement.
-fn item<'a>(
-    alloc: Global,
-    terminals: &'a [Terminal],
-) -> Result<(RefinementItem, &'a [Terminal]), Halt>
-    ensures { MatchResult result (λ found. Sole IsRefinementPart terminals.now (part_of found.0) found.1.now) (λ halt. OnBroken halt (Nothing IsRefinementPart terminals.now)) }
+fn item<'a>(alloc: Global, terminals: Rest<'a>) -> Result<(RefinementItem, Rest<'a>), Halt>
+    ensures { ReadsAs refinement_item_tree IsRefinementItem (ahead terminals.entry) result }
 {
     match after(terminals, Mark::Sub) {
         Some(more) => {
-            let ((name, component), left) = sub(more)?;
+            let ((name, component), left) = sub(alloc, more)?;
             Ok((RefinementItem::Sub { name, component }, left))
         }
         None => match after(terminals, Mark::Connection) {
@@ -150,15 +143,12 @@ fn item<'a>(
 }
 
 /// The items of a refinement.
-pub fn items<'a>(
-    alloc: Global,
-    terminals: &'a [Terminal],
-) -> Result<(RefinementItems, &'a [Terminal]), Halt>
-    ensures { MatchResult result (λ found. SoleUntil (Many IsRefinementPart) NoPart terminals.now (map part_of found.0) found.1.now) (λ halt. OnBroken halt (NothingUntil (Many IsRefinementPart) NoPart terminals.now)) }
+pub fn items<'a>(alloc: Global, terminals: Rest<'a>) -> Result<(RefinementItems, Rest<'a>), Halt>
+    ensures { ReadsUntil refinement_trees (Many IsRefinementItem) NoRefinementItem (ahead terminals.entry) result }
 {
     let mut items = RefinementItems::new(alloc);
     let mut rest = terminals;
-    'each: while begins_part(rest) {
+    'each: while begins_refinement_item(rest) {
         let (next, left) = item(alloc, rest)?;
         items.push(next)?;
         rest = left;

@@ -1,27 +1,27 @@
-ghost use Rattle.std.specs.Prelude.{◌≡◌, ◌≤◌, length, All, IsTrue, IfOk};
+//! What a token is read as. Main function: `lead`. Reads the text only, and allocates nothing.
+
+ghost use Rattle.std.specs.Prelude.{◌≡◌, ◌≤◌, length, IsTrue};
 ghost use Rattle.std.specs.Char.{is_ascii_digit};
 ghost use Rattle.std.specs.List.{list_all};
 ghost use Rattle.std.specs.Str.{IsUtf8};
 ghost use Rattle.std.specs.Str.Parse.{digits_value};
-ghost use Rattle.oss_syntax.specs.Terminals.{covered, word_terminal, symbol_terminal, terminal_of, terminals_of};
-ghost use Rattle.oss_syntax.specs.Tokens.{largest_numeral, StandsIn};
-ghost use Rattle.oss_reader.specs.Words.{ReadsReserved};
+ghost use Rattle.oss_syntax.specs.Terminals.{terminal_of};
+ghost use Rattle.oss_base.specs.Limits.{largest_numeral};
+ghost use Rattle.oss_syntax.specs.Tokens.{text_at};
+ghost use Rattle.oss_reader.specs.Leads.{lead_terminal};
+ghost use Rattle.oss_reader.specs.Readable.{IsReadable};
 
-use crate::words::{
-    binary_symbol, binary_word, mark_symbol, port_word, prefix_word, structure_word, truth_word,
-    unsupported_word,
-};
+use crate::lead::Lead;
+use crate::words::{symbol_lead, word_lead};
 use oss_base::Span;
-use oss_syntax::{Mark, PrefixWord, Terminal, Token, TokenKind, Word};
-use port_types::{Name, NoMemory};
-use std::alloc::Global;
+use oss_syntax::{Token, TokenKind};
 
 /// The text that a span covers.
 fn text_of(bytes: &[u8], span: Span) -> &str
     requires ordered { span.start ≤ span.end }
     requires inside { span.end ≤ length bytes.now }
-    requires text { IsUtf8 (covered bytes.now span) }
-    ensures { result.now ≡ covered bytes.now span }
+    requires text { IsUtf8 (text_at bytes.now span) }
+    ensures { result.now ≡ text_at bytes.now span }
 {
     match str::from_utf8(&bytes[span.start as usize..span.end as usize]) {
         Ok(text) => text,
@@ -42,84 +42,18 @@ fn number(digits: &[u8]) -> u32
     value
 }
 
-/// What a reserved word is read as.
-fn reserved_word(text: &str, span: Span) -> Option<Terminal>
-    ensures { ReadsReserved text.now span result }
-{
-    if let Some(mark) = structure_word(text) {
-        return Some(Terminal::Mark(mark, span));
-    }
-    if let Some(truth) = truth_word(text) {
-        return Some(Terminal::Truth(truth, span));
-    }
-    if let Some(word) = port_word(text) {
-        return Some(Terminal::OfPort(word, span));
-    }
-    if let Some(word) = prefix_word(text) {
-        return Some(Terminal::Prefix(word, span));
-    }
-    if let Some(word) = binary_word(text) {
-        return Some(Terminal::Binary(word, span));
-    }
-    if let Some(mark) = unsupported_word(text) {
-        return Some(Terminal::Mark(mark, span));
-    }
-    None
-}
-
-/// What a word is read as.
-fn word_terminal(alloc: Global, text: &str, span: Span) -> Result<Terminal, NoMemory>
-    ensures { IfOk result (λ read. read ≡ word_terminal text.now span) }
-{
-    match reserved_word(text, span) {
-        Some(terminal) => Ok(terminal),
-        None => Ok(Terminal::Name(Word {
-            text: Name::new(alloc, text)?,
-            span,
-        })),
-    }
-}
-
-/// What a symbol is read as.
-fn symbol_terminal(text: &str, span: Span) -> Terminal
-    ensures { result ≡ symbol_terminal text.now span }
-{
-    if let Some(word) = binary_symbol(text) {
-        return Terminal::Binary(word, span);
-    }
-    if text == "!" {
-        return Terminal::Prefix(PrefixWord::Not, span);
-    }
-    match mark_symbol(text) {
-        Some(mark) => Terminal::Mark(mark, span),
-        None => Terminal::Mark(Mark::UnsupportedConstruct, span),
-    }
-}
-
 /// What a token is read as.
-fn terminal(alloc: Global, bytes: &[u8], token: Token) -> Result<Terminal, NoMemory>
-    requires { StandsIn bytes.now token }
-    ensures { IfOk result (λ read. read ≡ terminal_of bytes.now token) }
+pub fn lead<'a>(bytes: &'a [u8], token: Token) -> Lead<'a>
+    requires { IsReadable bytes.now token }
+    ensures { lead_terminal result ≡ terminal_of bytes.now token }
 {
     let span = token.span;
     match token.kind {
-        TokenKind::Word => word_terminal(alloc, text_of(bytes, span), span),
-        TokenKind::Numeral => Ok(Terminal::Numeral(
+        TokenKind::Word => word_lead(text_of(bytes, span), span),
+        TokenKind::Numeral => Lead::Numeral(
             number(&bytes[span.start as usize..span.end as usize]),
             span,
-        )),
-        TokenKind::Symbol => Ok(symbol_terminal(text_of(bytes, span), span)),
+        ),
+        TokenKind::Symbol => symbol_lead(text_of(bytes, span), span),
     }
-}
-
-/// What the tokens are read as, in order.
-pub fn terminals(alloc: Global, bytes: &[u8], tokens: &[Token]) -> Result<Vec<Terminal>, NoMemory>
-    requires { All (StandsIn bytes.now) tokens.now }
-    ensures { IfOk result (λ read. read.items ≡ terminals_of bytes.now tokens.now) }
-{
-    let mut terminals = Vec::new(alloc);
-    for token in tokens {
-        terminals.push(terminal(alloc, bytes, *token)?)?;
-    }
-    Ok(terminals)
 }

@@ -1,33 +1,35 @@
-ghost use Rattle.std.specs.Prelude.{◌≡◌, ◌∷◌, MatchResult, MatchOption};
-ghost use Rattle.oss_syntax.specs.declared.terminal.Mark.TheVariants as mark;
-ghost use Rattle.oss_syntax.specs.declared.terminal.Terminal.TheVariants as terminal;
-ghost use Rattle.oss_syntax.specs.Items.{IsBound, IsNextName, IsEnumerators, IsType};
-ghost use Rattle.oss_syntax.specs.Steps.{Many};
-ghost use Rattle.oss_reader.specs.Rules.{FurtherNames};
-ghost use Rattle.oss_reader.specs.Reads.{OnBroken, Sole, Nothing, SoleUntil, NothingUntil, NoMark, NoNumeral, IsMinus, NoMinus};
+//! Reads the types of ports. Main function: `type_tree`. Allocates the names of enumerations.
 
-use crate::cursor::{after, broken, expect, minus, name};
+ghost use Rattle.oss_syntax.specs.declared.terminal.Mark.TheVariants as mark;
+ghost use Rattle.oss_syntax.specs.Items.{IsBound, IsEnumerators, IsType};
+ghost use Rattle.oss_reader.specs.Ahead.{ahead};
+ghost use Rattle.oss_reader.specs.Reads.{ReadsNumeral, Reads, NoMark};
+ghost use Rattle.oss_reader.specs.Rules.{ReadsFurtherNames};
+
+use crate::cursor::{after, broken, expect, minus, name, split_first};
 use crate::halt::Halt;
+use crate::lead::Lead;
+use crate::rest::Rest;
 use oss_base::Span;
-use oss_syntax::{BoundTree, Mark, Terminal, TypeTree, Word, Words};
+use oss_syntax::{BoundTree, Mark, TypeTree, Word, Words};
 use std::alloc::Global;
 
 /// A numeral and its span, with which the terminals have to begin.
-fn numeral<'a>(terminals: &'a [Terminal]) -> Result<(u32, Span, &'a [Terminal]), Halt>
-    ensures { MatchResult result (λ found. terminals.now ≡ terminal.Numeral found.0 found.1 ∷ found.2.now) (λ halt. OnBroken halt (NoNumeral terminals.now)) }
+fn numeral<'a>(terminals: Rest<'a>) -> Result<(u32, Span, Rest<'a>), Halt>
+    ensures { ReadsNumeral (ahead terminals.entry) result }
 {
-    match terminals.split_first() {
+    match split_first(terminals) {
         None => Err(Halt::Broken(broken(terminals, false))),
         Some((first, more)) => match first {
-            Terminal::Numeral(value, span) => Ok((*value, *span, more)),
+            Lead::Numeral(value, span) => Ok((value, span, more)),
             _ => Err(Halt::Broken(broken(terminals, false))),
         },
     }
 }
 
 /// An end of a range.
-fn bound<'a>(terminals: &'a [Terminal]) -> Result<(BoundTree, &'a [Terminal]), Halt>
-    ensures { MatchResult result (λ found. Sole IsBound terminals.now found.0 found.1.now) (λ halt. OnBroken halt (Nothing IsBound terminals.now)) }
+fn bound<'a>(terminals: Rest<'a>) -> Result<(BoundTree, Rest<'a>), Halt>
+    ensures { Reads IsBound (ahead terminals.entry) result }
 {
     match minus(terminals) {
         Some((span, more)) => {
@@ -52,11 +54,11 @@ fn bound<'a>(terminals: &'a [Terminal]) -> Result<(BoundTree, &'a [Terminal]), H
 }
 
 /// The range with whose first end the terminals have to begin.
-fn range<'a>(terminals: &'a [Terminal]) -> Result<(TypeTree, &'a [Terminal]), Halt>
-    requires boolean { NoMark mark.Boolean terminals.now }
-    requires event { NoMark mark.Event terminals.now }
-    requires brace { NoMark mark.OpenBrace terminals.now }
-    ensures { MatchResult result (λ found. Sole IsType terminals.now found.0 found.1.now) (λ halt. OnBroken halt (Nothing IsType terminals.now)) }
+fn range<'a>(terminals: Rest<'a>) -> Result<(TypeTree, Rest<'a>), Halt>
+    requires boolean { NoMark mark.Boolean (ahead terminals) }
+    requires event { NoMark mark.Event (ahead terminals) }
+    requires brace { NoMark mark.OpenBrace (ahead terminals) }
+    ensures { Reads IsType (ahead terminals.entry) result }
 {
     let (lo, dots) = bound(terminals)?;
     let more = expect(dots, Mark::Range)?;
@@ -68,9 +70,9 @@ fn range<'a>(terminals: &'a [Terminal]) -> Result<(TypeTree, &'a [Terminal]), Ha
 fn further_names<'a>(
     alloc: Global,
     first: Word,
-    terminals: &'a [Terminal],
-) -> Result<(Words, &'a [Terminal]), Halt>
-    ensures { MatchResult result (λ found. FurtherNames first terminals.now found.0 found.1.now) (λ halt. OnBroken halt (NothingUntil (Many IsNextName) (NoMark mark.Comma) terminals.now)) }
+    terminals: Rest<'a>,
+) -> Result<(Words, Rest<'a>), Halt>
+    ensures { ReadsFurtherNames first (ahead terminals.entry) result }
 {
     let mut names = Words::new(alloc);
     names.push(first)?;
@@ -79,7 +81,7 @@ fn further_names<'a>(
         match after(rest, Mark::Comma) {
             None => return Ok((names, rest)),
             Some(more) => {
-                let (next, left) = name(more)?;
+                let (next, left) = name(alloc, more)?;
                 names.push(next)?;
                 rest = left;
             }
@@ -88,24 +90,18 @@ fn further_names<'a>(
 }
 
 /// The names of an enumeration and the brace after them.
-fn enumerators<'a>(
-    alloc: Global,
-    terminals: &'a [Terminal],
-) -> Result<(Words, &'a [Terminal]), Halt>
-    ensures { MatchResult result (λ found. Sole IsEnumerators terminals.now found.0 found.1.now) (λ halt. OnBroken halt (Nothing IsEnumerators terminals.now)) }
+fn enumerators<'a>(alloc: Global, terminals: Rest<'a>) -> Result<(Words, Rest<'a>), Halt>
+    ensures { Reads IsEnumerators (ahead terminals.entry) result }
 {
-    let (first, more) = name(terminals)?;
+    let (first, more) = name(alloc, terminals)?;
     let (names, rest) = further_names(alloc, first, more)?;
     let left = expect(rest, Mark::CloseBrace)?;
     Ok((names, left))
 }
 
 /// The type of a port.
-pub fn type_tree<'a>(
-    alloc: Global,
-    terminals: &'a [Terminal],
-) -> Result<(TypeTree, &'a [Terminal]), Halt>
-    ensures { MatchResult result (λ found. Sole IsType terminals.now found.0 found.1.now) (λ halt. OnBroken halt (Nothing IsType terminals.now)) }
+pub fn type_tree<'a>(alloc: Global, terminals: Rest<'a>) -> Result<(TypeTree, Rest<'a>), Halt>
+    ensures { Reads IsType (ahead terminals.entry) result }
 {
     match after(terminals, Mark::Boolean) {
         Some(left) => Ok((TypeTree::Boolean, left)),

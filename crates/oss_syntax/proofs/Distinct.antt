@@ -10,7 +10,7 @@ use Rattle.oss_syntax.specs.declared.expression.Expr.TheViews.{roll-Expr}
 use Rattle.oss_syntax.specs.declared.expression.Expr.TheFolds.{fold-roll-Expr, map-Expr, ind-Expr}
 use Rattle.oss_syntax.specs.Expressions.{Tree, Name, Dotted, Numeral, Truth, Brackets, OfPort, Prefix, Binary, tree, node_tree}
 use Rattle.oss_syntax.specs.Trees as t
-use Rattle.oss_syntax.specs.Trees.{Item, RefinementPart, Component, item_of, part_of, refinement_of, component_of, components_of}
+use Rattle.oss_syntax.specs.Trees.{Item, RefinementItemTree, Component, item_tree, refinement_item_tree, refinement_tree, component_tree, component_trees}
 
 -- Each tree is made again from what it stands for.
 
@@ -28,7 +28,8 @@ abbrev MadeAgain : Expr → Type 0
 MadeAgain e = expr_of (tree e) ≡ e
 
 -- at a node whose parts are made again
-made_again_node : (y : Expr-F ((e : Expr) × MadeAgain e)) → MadeAgain (roll-Expr (map-Expr ((e : Expr) × MadeAgain e) Expr (λ e. e.0) y))
+made_again_node : (y : Expr-F ((e : Expr) × MadeAgain e))
+    → MadeAgain (roll-Expr (map-Expr ((e : Expr) × MadeAgain e) Expr (λ e. e.0) y))
 made_again_node (Expr-F.Name word) = ap expr_of (fold-roll-Expr Tree node_tree (Expr-F.Name word))
 made_again_node (Expr-F.Dotted sub port) = ap expr_of (fold-roll-Expr Tree node_tree (Expr-F.Dotted sub port))
 made_again_node (Expr-F.Numeral value span) = ap expr_of (fold-roll-Expr Tree node_tree (Expr-F.Numeral value span))
@@ -50,17 +51,17 @@ abbrev interface_item_of : Item → InterfaceItem
 interface_item_of (t.Port input name kind) = interface.Port input name kind
 interface_item_of (t.Contract name assume guarantee) = interface.Contract name (expr_of assume) (expr_of guarantee)
 
-item_again : (i : InterfaceItem) → interface_item_of (item_of i) ≡ i
+item_again : (i : InterfaceItem) → interface_item_of (item_tree i) ≡ i
 item_again (interface.Port input name kind) = refl
 item_again (interface.Contract name assume guarantee) =
     ap (λ a. interface.Contract name a (expr_of (tree guarantee))) (made_again assume) ∙ ap (λ g. interface.Contract name assume g) (made_again guarantee)
 
-abbrev refinement_item_of : RefinementPart → RefinementItem
+abbrev refinement_item_of : RefinementItemTree → RefinementItem
 refinement_item_of (t.Sub name component) = refinement.Sub name component
 refinement_item_of (t.Connection target source) = refinement.Connection target (expr_of source)
 refinement_item_of (t.Refined name parts) = refinement.Contract name parts
 
-part_again : (i : RefinementItem) → refinement_item_of (part_of i) ≡ i
+part_again : (i : RefinementItem) → refinement_item_of (refinement_item_tree i) ≡ i
 part_again (refinement.Sub name component) = refl
 part_again (refinement.Connection target source) = ap (λ e. refinement.Connection target e) (made_again source)
 part_again (refinement.Contract name parts) = refl
@@ -69,13 +70,13 @@ map_again : {A B : Type 0} (f : A → B) (g : B → A) → ((x : A) → g (f x) 
 map_again f g again [] = refl
 map_again f g again (x ∷ xs) = ap (λ y. y ∷ map g (map f xs)) (again x) ∙ ap (λ ys. x ∷ ys) (map_again f g again xs)
 
-abbrev refinement_from : Option (List RefinementPart) → Option (List RefinementItem)
+abbrev refinement_from : Option (List RefinementItemTree) → Option (List RefinementItem)
 refinement_from None = None
 refinement_from (Some parts) = Some (map refinement_item_of parts)
 
-refinement_again : (r : Option (List RefinementItem)) → refinement_from (refinement_of r) ≡ r
+refinement_again : (r : Option (List RefinementItem)) → refinement_from (refinement_tree r) ≡ r
 refinement_again None = refl
-refinement_again (Some items) = ap Some (map_again part_of refinement_item_of part_again items)
+refinement_again (Some items) = ap Some (map_again refinement_item_tree refinement_item_of part_again items)
 
 abbrev component_from : Component → TreeComponent
 component_from c = record {
@@ -85,12 +86,13 @@ component_from c = record {
   refinement = refinement_from c.refinement;
 }
 
-component_again : (c : TreeComponent) → component_from (component_of c) ≡ c
+component_again : (c : TreeComponent) → component_from (component_tree c) ≡ c
 component_again c =
-    ap (λ i. record { name = c.name; system = c.system; interface = i; refinement = refinement_from (refinement_of c.refinement) }) (map_again item_of interface_item_of item_again c.interface)
+    ap (λ i. record { name = c.name; system = c.system; interface = i; refinement = refinement_from (refinement_tree c.refinement) })
+    (map_again item_tree interface_item_of item_again c.interface)
     ∙ ap (λ r. record { name = c.name; system = c.system; interface = c.interface; refinement = r }) (refinement_again c.refinement)
 
-pub distinct : (a b : List TreeComponent) → components_of a ≡ components_of b → a ≡ b
-distinct a b same = sym (map_again component_of component_from component_again a)
+pub distinct : (a b : List TreeComponent) → component_trees a ≡ component_trees b → a ≡ b
+distinct a b same = sym (map_again component_tree component_from component_again a)
     ∙ ap (map component_from) same
-    ∙ map_again component_of component_from component_again b
+    ∙ map_again component_tree component_from component_again b

@@ -1,3 +1,4 @@
+-- Expressions as plain trees, their heights, and how tightly the operators bind.
 use Rattle.std.specs.Prelude.{ℕ, ◌+◌, max, Bool, true, false}
 use Rattle.oss_base.specs.declared.place.Span.{Span}
 use Rattle.oss_syntax.specs.declared.words.Word.{Word}

@@ -1,4 +1,6 @@
+-- The expressions of the grammar: which terminals spell which tree.
 use Rattle.std.specs.Prelude.{◌≡◌, ◌≤◌, ◌⊎◌, true, List, ◌∷◌, codes}
+use Rattle.oss_base.specs.Limits.{most_height}
 use Rattle.oss_base.specs.declared.place.Span.{Span}
 use Rattle.oss_syntax.specs.declared.expression.PrefixWord.{PrefixWord}
 use Rattle.oss_syntax.specs.declared.expression.PrefixWord.TheVariants as prefix
@@ -6,13 +8,16 @@ use Rattle.oss_syntax.specs.declared.expression.BinaryWord.TheVariants as binary
 use Rattle.oss_syntax.specs.declared.expression.Role.{Role}
 use Rattle.oss_syntax.specs.declared.expression.Role.TheVariants as roles
 use Rattle.oss_syntax.specs.declared.terminal.Mark.TheVariants as mark
-use Rattle.oss_syntax.specs.declared.terminal.Terminal.{Terminal}
-use Rattle.oss_syntax.specs.declared.terminal.Terminal.TheVariants as terminal
+use Rattle.oss_syntax.specs.Alphabet.{Terminal}
+use Rattle.oss_syntax.specs.Alphabet as terminal
 use Rattle.oss_syntax.specs.Expressions.{Tree, Name, Dotted, Numeral, Truth, Brackets, OfPort, Prefix, Binary, height, level, prefix_level, left_level, right_level, allows_prefix, allows_binary}
 
 -- the word `in`, and then the names `the` and `future`
 abbrev pub InTheFuture : List Terminal → Span → List Terminal → Type 0
-InTheFuture ts span rest = (the future : Span) × (ts ≡ terminal.Mark mark.In span ∷ terminal.Name (record { text = codes "the"; span = the }) ∷ terminal.Name (record { text = codes "future"; span = future }) ∷ rest)
+InTheFuture ts span rest =
+    (the future : Span)
+    × (ts ≡ terminal.Mark mark.In span ∷ terminal.Name (record { text = codes "the"; span = the })
+    ∷ terminal.Name (record { text = codes "future"; span = future }) ∷ rest)
 
 -- a second way to write a word before an operand: minus is the sign that also stands between two
 -- operands, and `F` is also written in three words
@@ -35,7 +40,8 @@ SpellsPrefix ts word span rest = (ts ≡ terminal.Prefix word span ∷ rest) ⊎
 abbrev pub Spells : Role → List Terminal → Tree → List Terminal → Type 0
 Spells role ts (Name word) rest = ts ≡ terminal.Name word ∷ rest
 Spells role ts (Dotted sub port) rest =
-    (role ≡ roles.State) × (dot : Span) × (ts ≡ terminal.Name sub ∷ terminal.Mark mark.Dot dot ∷ terminal.Name port ∷ rest)
+    (role ≡ roles.State) × (dot : Span)
+    × (ts ≡ terminal.Name sub ∷ terminal.Mark mark.Dot dot ∷ terminal.Name port ∷ rest)
 Spells role ts (Numeral value span) rest = ts ≡ terminal.Numeral value span ∷ rest
 Spells role ts (Truth truth span) rest = ts ≡ terminal.Truth truth span ∷ rest
 Spells role ts (Brackets inside span) rest =
@@ -43,7 +49,8 @@ Spells role ts (Brackets inside span) rest =
     × Spells role mid inside (terminal.Mark mark.Close closing ∷ rest)
 Spells role ts (OfPort word port span) rest =
     (role ≡ roles.Formula) × (opening closing : Span)
-    × (ts ≡ terminal.OfPort word span ∷ terminal.Mark mark.Open opening ∷ terminal.Name port ∷ terminal.Mark mark.Close closing ∷ rest)
+    × (ts ≡ terminal.OfPort word span ∷ terminal.Mark mark.Open opening ∷ terminal.Name port
+    ∷ terminal.Mark mark.Close closing ∷ rest)
 Spells role ts (Prefix word operand span) rest =
     (allows_prefix role word ≡ true) × (level operand ≤ prefix_level word)
     × (mid : List Terminal) × SpellsPrefix ts word span mid × Spells role mid operand rest
@@ -54,4 +61,5 @@ Spells role ts (Binary word left right span) rest =
 -- A whole expression and the semicolon after it, within the limit on height.
 abbrev pub Closed : Role → List Terminal → Tree → List Terminal → Type 0
 Closed role ts whole rest =
-    (semicolon : Span) × Spells role ts whole (terminal.Mark mark.Semicolon semicolon ∷ rest) × (height whole ≤ 128)
+    (semicolon : Span) × Spells role ts whole (terminal.Mark mark.Semicolon semicolon ∷ rest)
+    × (height whole ≤ most_height)

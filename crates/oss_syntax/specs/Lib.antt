@@ -2,6 +2,7 @@ pub mod Tokens
 pub mod Expressions
 pub mod Trees
 pub mod Spanless
+pub mod Alphabet
 pub mod Steps
 pub mod Formulas
 pub mod Items

@@ -1,3 +1,4 @@
+-- The kinds of fault of the syntax.
 use Rattle.oss_base.specs.declared.fault.FaultKind.{FaultKind}
 use Rattle.oss_base.specs.declared.fault.FaultKind.TheVariants as kinds
 

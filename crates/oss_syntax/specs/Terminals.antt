@@ -1,6 +1,8 @@
-use Rattle.std.specs.Prelude.{ℕ, Bool, true, false, List, [], ◌∷◌, Option, Some, None, map, codes, bytes_eq, slice_range, if◌then◌else◌}
+-- What the tokens of a text are read as: the tables of reserved words and symbols.
+use Rattle.std.specs.Prelude.{ℕ, Bool, true, false, List, [], ◌∷◌, Option, Some, None, map, codes, bytes_eq, if◌then◌else◌}
 use Rattle.std.specs.Str.Parse.{digits_value}
 use Rattle.oss_base.specs.declared.place.Span.{Span}
+use Rattle.oss_syntax.specs.Tokens.{text_at}
 use Rattle.oss_syntax.specs.declared.token.Token.{Token}
 use Rattle.oss_syntax.specs.declared.token.TokenKind.{TokenKind}
 use Rattle.oss_syntax.specs.declared.token.TokenKind.TheVariants as kinds
@@ -12,8 +14,8 @@ use Rattle.oss_syntax.specs.declared.expression.BinaryWord.{BinaryWord}
 use Rattle.oss_syntax.specs.declared.expression.BinaryWord.TheVariants as binary
 use Rattle.oss_syntax.specs.declared.terminal.Mark.{Mark}
 use Rattle.oss_syntax.specs.declared.terminal.Mark.TheVariants as mark
-use Rattle.oss_syntax.specs.declared.terminal.Terminal.{Terminal}
-use Rattle.oss_syntax.specs.declared.terminal.Terminal.TheVariants as terminal
+use Rattle.oss_syntax.specs.Alphabet.{Terminal}
+use Rattle.oss_syntax.specs.Alphabet as terminal
 
 -- What the tokens of a text are read as: their terminals. A word or a symbol is looked up in the tables
 -- below; a word that stands in none of them is a name.
@@ -29,21 +31,27 @@ spells text means = record { text = text; means = means }
 -- what the first of these spellings that is this text stands for
 abbrev pub choose : {A : Type 0} → List (Spelling A) → List ℕ → Option A
 choose [] text = None
-choose (spelling ∷ spellings) text = if bytes_eq text spelling.text then Some spelling.means else choose spellings text
+choose (spelling
+    ∷ spellings) text = if bytes_eq text spelling.text then Some spelling.means else choose spellings text
 
 abbrev pub structure_words : List (Spelling Mark)
 structure_words =
-    spells (codes "COMPONENT") mark.Component ∷ spells (codes "system") mark.System ∷ spells (codes "INTERFACE") mark.Interface
+    spells (codes "COMPONENT") mark.Component ∷ spells (codes "system") mark.System
+    ∷ spells (codes "INTERFACE") mark.Interface
     ∷ spells (codes "INPUT") mark.Input ∷ spells (codes "OUTPUT") mark.Output ∷ spells (codes "PORT") mark.Port
-    ∷ spells (codes "CONTRACT") mark.Contract ∷ spells (codes "assume") mark.Assume ∷ spells (codes "guarantee") mark.Guarantee
-    ∷ spells (codes "REFINEMENT") mark.Refinement ∷ spells (codes "SUB") mark.Sub ∷ spells (codes "CONNECTION") mark.Connection
-    ∷ spells (codes "REFINEDBY") mark.RefinedBy ∷ spells (codes "boolean") mark.Boolean ∷ spells (codes "event") mark.Event
+    ∷ spells (codes "CONTRACT") mark.Contract ∷ spells (codes "assume") mark.Assume
+    ∷ spells (codes "guarantee") mark.Guarantee
+    ∷ spells (codes "REFINEMENT") mark.Refinement ∷ spells (codes "SUB") mark.Sub
+    ∷ spells (codes "CONNECTION") mark.Connection
+    ∷ spells (codes "REFINEDBY") mark.RefinedBy ∷ spells (codes "boolean") mark.Boolean
+    ∷ spells (codes "event") mark.Event
     ∷ spells (codes "in") mark.In ∷ []
 
 -- words of types and constructs that are not supported
 abbrev pub unsupported_words : List (Spelling Mark)
 unsupported_words =
-    spells (codes "real") mark.UnsupportedType ∷ spells (codes "integer") mark.UnsupportedType ∷ spells (codes "word") mark.UnsupportedType
+    spells (codes "real") mark.UnsupportedType ∷ spells (codes "integer") mark.UnsupportedType
+    ∷ spells (codes "word") mark.UnsupportedType
     ∷ spells (codes "unsigned") mark.UnsupportedType ∷ spells (codes "signed") mark.UnsupportedType
     ∷ spells (codes "array") mark.UnsupportedType ∷ spells (codes "continuous") mark.UnsupportedType
     ∷ spells (codes "PARAMETER") mark.UnsupportedConstruct ∷ spells (codes "OPERATION") mark.UnsupportedConstruct
@@ -54,10 +62,14 @@ unsupported_words =
     ∷ spells (codes "xor") mark.UnsupportedConstruct ∷ []
 
 abbrev pub truth_words : List (Spelling Bool)
-truth_words = spells (codes "true") true ∷ spells (codes "TRUE") true ∷ spells (codes "false") false ∷ spells (codes "FALSE") false ∷ []
+truth_words =
+    spells (codes "true") true ∷ spells (codes "TRUE") true ∷ spells (codes "false") false
+    ∷ spells (codes "FALSE") false ∷ []
 
 abbrev pub port_words : List (Spelling PortWord)
-port_words = spells (codes "next") port.Next ∷ spells (codes "change") port.Change ∷ spells (codes "rise") port.Rise ∷ spells (codes "fall") port.Fall ∷ []
+port_words =
+    spells (codes "next") port.Next ∷ spells (codes "change") port.Change ∷ spells (codes "rise") port.Rise
+    ∷ spells (codes "fall") port.Fall ∷ []
 
 abbrev pub prefix_words : List (Spelling PrefixWord)
 prefix_words =
@@ -78,11 +90,22 @@ binary_symbols =
     ∷ spells (codes "<") binary.Less ∷ spells (codes ">") binary.Greater ∷ spells (codes "+") binary.Plus
     ∷ spells (codes "-") binary.Minus ∷ spells (codes "&") binary.And ∷ spells (codes "|") binary.Or ∷ []
 
+abbrev pub prefix_symbols : List (Spelling PrefixWord)
+prefix_symbols = spells (codes "!") prefix.Not ∷ []
+
 abbrev pub mark_symbols : List (Spelling Mark)
 mark_symbols =
-    spells (codes ":=") mark.Assign ∷ spells (codes ":") mark.Colon ∷ spells (codes ";") mark.Semicolon ∷ spells (codes ",") mark.Comma
-    ∷ spells (codes "..") mark.Range ∷ spells (codes ".") mark.Dot ∷ spells (codes "(") mark.Open ∷ spells (codes ")") mark.Close
+    spells (codes ":=") mark.Assign ∷ spells (codes ":") mark.Colon ∷ spells (codes ";") mark.Semicolon
+    ∷ spells (codes ",") mark.Comma
+    ∷ spells (codes "..") mark.Range ∷ spells (codes ".") mark.Dot ∷ spells (codes "(") mark.Open
+    ∷ spells (codes ")") mark.Close
     ∷ spells (codes "{") mark.OpenBrace ∷ spells (codes "}") mark.CloseBrace ∷ spells (codes "@") mark.At ∷ []
+
+-- symbols of constructs that are not supported
+abbrev pub unsupported_symbols : List (Spelling Mark)
+unsupported_symbols =
+    spells (codes "*") mark.UnsupportedConstruct ∷ spells (codes "/") mark.UnsupportedConstruct
+    ∷ spells (codes "[") mark.UnsupportedConstruct ∷ spells (codes "]") mark.UnsupportedConstruct ∷ []
 
 -- the terminal of what a table gives, or the other one where it gives nothing
 abbrev pub as_terminal : {A : Type 0} → (A → Span → Terminal) → Option A → Span → Terminal → Terminal
@@ -99,17 +122,14 @@ word_terminal text span =
     (as_terminal terminal.Mark (choose unsupported_words text) span
     (terminal.Name (record { text = text; span = span })))))))
 
--- `!` is the word `not`, and the symbols that are in no table (`*`, `/`, `[` and `]`) are not supported
+-- `!` is the word `not`. Each symbol of the language stands in one of these tables.
 abbrev pub symbol_terminal : List ℕ → Span → Terminal
 symbol_terminal text span =
     as_terminal terminal.Binary (choose binary_symbols text) span
-    (as_terminal terminal.Prefix (choose (spells (codes "!") prefix.Not ∷ []) text) span
+    (as_terminal terminal.Prefix (choose prefix_symbols text) span
     (as_terminal terminal.Mark (choose mark_symbols text) span
-    (terminal.Mark mark.UnsupportedConstruct span)))
-
--- the bytes that a span covers
-abbrev pub covered : List ℕ → Span → List ℕ
-covered bytes span = slice_range bytes span.start span.end
+    (as_terminal terminal.Mark (choose unsupported_symbols text) span
+    (terminal.Name (record { text = text; span = span })))))
 
 abbrev pub read_as : TokenKind → List ℕ → Span → Terminal
 read_as kinds.Word text span = word_terminal text span
@@ -117,7 +137,7 @@ read_as kinds.Numeral text span = terminal.Numeral (digits_value 10 text) span
 read_as kinds.Symbol text span = symbol_terminal text span
 
 abbrev pub terminal_of : List ℕ → Token → Terminal
-terminal_of bytes token = read_as token.kind (covered bytes token.span) token.span
+terminal_of bytes token = read_as token.kind (text_at bytes token.span) token.span
 
 abbrev pub terminals_of : List ℕ → List Token → List Terminal
 terminals_of bytes tokens = map (terminal_of bytes) tokens

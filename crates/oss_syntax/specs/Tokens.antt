@@ -7,10 +7,12 @@ use Rattle.std.specs.Prelude.{◌≡◌, ◌≢◌, ℕ, ◌+◌, ◌<◌, ◌�
 use Rattle.std.specs.Char.{is_ascii_digit, is_ascii_alphabetic, is_ascii_alphanumeric}
 use Rattle.std.specs.List.{list_all, flat_map}
 use Rattle.std.specs.Str.Parse.{digits_value}
+use Rattle.oss_base.specs.Limits.{largest_numeral}
 use Rattle.oss_base.specs.Places.{place_after}
 use Rattle.oss_base.specs.declared.fault.Fault.{Fault}
 use Rattle.oss_base.specs.declared.fault.FaultKind.{FaultKind}
 use Rattle.oss_base.specs.declared.fault.FaultKind.TheVariants.{F2, F4}
+use Rattle.oss_base.specs.declared.place.Span.{Span}
 use Rattle.oss_syntax.specs.declared.token.Token.{Token}
 use Rattle.oss_syntax.specs.declared.token.TokenKind.{TokenKind}
 use Rattle.oss_syntax.specs.declared.token.TokenKind.TheVariants.{Word, Numeral, Symbol}
@@ -22,10 +24,6 @@ symbols =
     ∷ codes "{" ∷ codes "}" ∷ codes "[" ∷ codes "]" ∷ codes "<->" ∷ codes "->" ∷ codes "<=" ∷ codes ">="
     ∷ codes "!=" ∷ codes "=" ∷ codes "<" ∷ codes ">" ∷ codes "+" ∷ codes "-" ∷ codes "*" ∷ codes "/"
     ∷ codes "!" ∷ codes "&" ∷ codes "|" ∷ codes "@" ∷ []
-
--- a numeral may be at most this
-abbrev pub largest_numeral : ℕ
-largest_numeral = 1000000
 
 -- a space, a tab, a carriage return or a line feed
 abbrev pub is_blank : ℕ → Bool
@@ -50,14 +48,14 @@ begins_comment (_ ∷ []) = false
 begins_comment [] = false
 
 -- there is a first byte, and it passes
-abbrev pub Starts : (ℕ → Bool) → List ℕ → Type 0
-Starts passes [] = ⊥
-Starts passes (byte ∷ _) = IsTrue (passes byte)
+abbrev pub FirstPasses : (ℕ → Bool) → List ℕ → Type 0
+FirstPasses passes [] = ⊥
+FirstPasses passes (byte ∷ _) = IsTrue (passes byte)
 
 -- the first byte doesn't pass, or there is none
-abbrev pub Stops : (ℕ → Bool) → List ℕ → Type 0
-Stops passes [] = Unit {0}
-Stops passes (byte ∷ _) = passes byte ≡ false
+abbrev pub NoFirstPasses : (ℕ → Bool) → List ℕ → Type 0
+NoFirstPasses passes [] = Unit {0}
+NoFirstPasses passes (byte ∷ _) = passes byte ≡ false
 
 -- Below, `text` is the text of a piece, and `after` are all the bytes that follow it.
 
@@ -68,22 +66,23 @@ IsBlank text = (byte : ℕ) × (text ≡ byte ∷ []) × IsTrue (is_blank byte)
 pub record IsComment (text after : List ℕ) : Type 0 where
   pub begins : IsTrue (begins_comment text)
   pub bytes : IsTrue (list_all is_comment_byte text)
-  pub ends : Stops is_comment_byte after
+  pub ends : NoFirstPasses is_comment_byte after
 
 pub record IsWord (text after : List ℕ) : Type 0 where
-  pub begins : Starts is_word_start text
+  pub begins : FirstPasses is_word_start text
   pub bytes : IsTrue (list_all is_word_byte text)
-  pub ends : Stops is_word_byte after
+  pub ends : NoFirstPasses is_word_byte after
 
 pub record IsNumeral (text after : List ℕ) : Type 0 where
-  pub begins : Starts is_ascii_digit text
+  pub begins : FirstPasses is_ascii_digit text
   pub bytes : IsTrue (list_all is_ascii_digit text)
-  pub ends : Stops is_ascii_digit after
+  pub ends : NoFirstPasses is_ascii_digit after
 
 -- No longer symbol stands there, and no comment begins there.
 pub record IsSymbol (text after : List ℕ) : Type 0 where
   pub listed : Contains symbols text
-  pub longest : (other rest : List ℕ) → Contains symbols other → text ++ after ≡ other ++ rest → length other ≤ length text
+  pub longest : (other rest : List ℕ) → Contains symbols other → text ++ after ≡ other ++ rest
+      → length other ≤ length text
   pub no_comment : begins_comment (text ++ after) ≡ false
 
 -- A piece: a token of a kind, or, where there is no kind, a gap, which is one blank or one comment.
@@ -105,13 +104,15 @@ IsWithinLimit (Some Symbol) text = Unit {0}
 IsWithinLimit None text = Unit {0}
 
 -- the bytes of the pieces, one after another
-abbrev pub joined : List Piece → List ℕ
-joined pieces = flat_map (λ (piece : Piece). piece.text) pieces
+abbrev pub joined_bytes : List Piece → List ℕ
+joined_bytes pieces = flat_map (λ (piece : Piece). piece.text) pieces
 
 -- each is a piece where the others and `rest` follow it, and is within the limit
 abbrev pub ArePieces : List Piece → List ℕ → Type 0
 ArePieces [] rest = Unit {0}
-ArePieces (piece ∷ pieces) rest = IsPieceOf piece.kind piece.text (joined pieces ++ rest) × IsWithinLimit piece.kind piece.text × ArePieces pieces rest
+ArePieces (piece ∷ pieces) rest =
+    IsPieceOf piece.kind piece.text (joined_bytes pieces ++ rest) × IsWithinLimit piece.kind piece.text
+    × ArePieces pieces rest
 
 -- the token of a piece that begins at offset `start`; a gap has none
 abbrev pub token_of : ℕ → Option TokenKind → ℕ → List Token
@@ -121,20 +122,22 @@ token_of start (Some kind) len = record { kind = kind; span = record { start = s
 -- the tokens of pieces of which the first begins at offset `start`
 abbrev pub tokens_from : ℕ → List Piece → List Token
 tokens_from start [] = []
-tokens_from start (piece ∷ pieces) = token_of start piece.kind (length piece.text) ++ tokens_from (start + length piece.text) pieces
+tokens_from start (piece ∷ pieces) =
+    token_of start piece.kind (length piece.text) ++ tokens_from (start + length piece.text) pieces
 
 -- The tokens of a text that has no lexing fault: the text is cut into pieces, and these are their tokens.
 -- The text of a token is what its span covers.
 pub record AreTokens (bytes : List ℕ) (tokens : List Token) : Type 0 where
   pub pieces : List Piece
-  pub whole : bytes ≡ joined pieces
+  pub whole : bytes ≡ joined_bytes pieces
   pub each : ArePieces pieces []
   pub tokens_are : tokens ≡ tokens_from 0 pieces
 
 -- there is a byte, and no piece begins at it
 pub record IsBadByte (rest : List ℕ) : Type 0 where
   pub some : rest ≢ []
-  pub none_begins : (kind : Option TokenKind) (text after : List ℕ) → rest ≡ text ++ after → IsPieceOf kind text after → ⊥
+  pub none_begins : (kind : Option TokenKind) (text after : List ℕ) → rest ≡ text ++ after
+      → IsPieceOf kind text after → ⊥
 
 -- a numeral begins here, and its number is over the limit
 pub record IsLargeNumeral (rest : List ℕ) : Type 0 where
@@ -152,18 +155,18 @@ IsFaultAt kind rest = ((kind ≡ F2) × IsBadByte rest) ⊎ ((kind ≡ F4) × Is
 pub record IsFirstFault (bytes : List ℕ) (fault : Fault) : Type 0 where
   pub pieces : List Piece
   pub rest : List ℕ
-  pub whole : bytes ≡ joined pieces ++ rest
+  pub whole : bytes ≡ joined_bytes pieces ++ rest
   pub each : ArePieces pieces rest
   pub stands : IsFaultAt fault.kind rest
-  pub place : fault.place ≡ place_after (joined pieces)
+  pub place : fault.place ≡ place_after (joined_bytes pieces)
 
--- the bytes that a token covers
-abbrev pub text_of : List ℕ → Token → List ℕ
-text_of bytes token = slice_range bytes token.span.start token.span.end
+-- the bytes that a span covers
+abbrev pub text_at : List ℕ → Span → List ℕ
+text_at bytes span = slice_range bytes span.start span.end
 
 -- such bytes are the text of a token of this kind
 abbrev pub IsTextOf : TokenKind → List ℕ → Type 0
-IsTextOf Word text = Starts is_word_start text × IsTrue (list_all is_word_byte text)
+IsTextOf Word text = FirstPasses is_word_start text × IsTrue (list_all is_word_byte text)
 IsTextOf Numeral text = IsTrue (list_all is_ascii_digit text) × (digits_value 10 text ≤ largest_numeral)
 IsTextOf Symbol text = Contains symbols text
 
@@ -171,7 +174,7 @@ IsTextOf Symbol text = Contains symbols text
 pub record StandsIn (bytes : List ℕ) (token : Token) : Type 0 where
   pub some : token.span.start < token.span.end
   pub within : token.span.end ≤ length bytes
-  pub text : IsTextOf token.kind (text_of bytes token)
+  pub text : IsTextOf token.kind (text_at bytes token.span)
 
 -- the tokens stand in order from offset `from` on, and none begins before the one before it ends
 abbrev pub AreInOrder : ℕ → List Token → Type 0

@@ -1,3 +1,4 @@
+-- What the items, components and texts of the code stand for.
 use Rattle.std.specs.Prelude.{Bool, List, map, Option, option_map}
 use Rattle.oss_base.specs.declared.place.Span.{Span}
 use Rattle.oss_syntax.specs.declared.words.Word.{Word}
@@ -20,38 +21,38 @@ pub data Item : Type 0 where
   Port : Bool → Word → TypeTree → Item
   Contract : Word → Tree → Tree → Item
 
-abbrev pub item_of : InterfaceItem → Item
-item_of (interface.Port input name kind) = Port input name kind
-item_of (interface.Contract name assume guarantee) = Contract name (tree assume) (tree guarantee)
+abbrev pub item_tree : InterfaceItem → Item
+item_tree (interface.Port input name kind) = Port input name kind
+item_tree (interface.Contract name assume guarantee) = Contract name (tree assume) (tree guarantee)
 
 -- an item of a refinement: a subcomponent and its component, a connection, or a refined contract with
 -- the contracts of subcomponents that refine it
-pub data RefinementPart : Type 0 where
-  Sub : Word → Word → RefinementPart
-  Connection : TargetTree → Tree → RefinementPart
-  Refined : Word → List PartWord → RefinementPart
+pub data RefinementItemTree : Type 0 where
+  Sub : Word → Word → RefinementItemTree
+  Connection : TargetTree → Tree → RefinementItemTree
+  Refined : Word → List PartWord → RefinementItemTree
 
-abbrev pub part_of : RefinementItem → RefinementPart
-part_of (refinement.Sub name component) = Sub name component
-part_of (refinement.Connection target source) = Connection target (tree source)
-part_of (refinement.Contract name parts) = Refined name parts
+abbrev pub refinement_item_tree : RefinementItem → RefinementItemTree
+refinement_item_tree (refinement.Sub name component) = Sub name component
+refinement_item_tree (refinement.Connection target source) = Connection target (tree source)
+refinement_item_tree (refinement.Contract name parts) = Refined name parts
 
 pub record Component : Type 0 where
   pub name : Word
   pub system : Option Span
   pub interface : List Item
-  pub refinement : Option (List RefinementPart)
+  pub refinement : Option (List RefinementItemTree)
 
-abbrev pub refinement_of : Option (List RefinementItem) → Option (List RefinementPart)
-refinement_of refinement = option_map (map part_of) refinement
+abbrev pub refinement_tree : Option (List RefinementItem) → Option (List RefinementItemTree)
+refinement_tree refinement = option_map (map refinement_item_tree) refinement
 
-abbrev pub component_of : TreeComponent → Component
-component_of c = record {
+abbrev pub component_tree : TreeComponent → Component
+component_tree c = record {
   name = c.name;
   system = c.system;
-  interface = map item_of c.interface;
-  refinement = refinement_of c.refinement;
+  interface = map item_tree c.interface;
+  refinement = refinement_tree c.refinement;
 }
 
-abbrev pub components_of : List TreeComponent → List Component
-components_of components = map component_of components
+abbrev pub component_trees : List TreeComponent → List Component
+component_trees components = map component_tree components

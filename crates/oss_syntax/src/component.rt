@@ -1,3 +1,5 @@
+//! Components and specifications as they are written. Main items: `TreeComponent`, `SpecTree`.
+
 ghost use Rattle.std.specs.Prelude.{◌≡◌, [], ◌∷◌, ◌++◌, ◌↔◌, IsTrue, OnOk, OnErr, length};
 
 use crate::interface::InterfaceItems;

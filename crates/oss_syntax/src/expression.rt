@@ -1,3 +1,5 @@
+//! Expressions as they are written, and the words that stand in them. Main items: `Expr`, `Role`.
+
 ghost use Rattle.std.specs.Prelude.{◌≡◌, IfOk};
 ghost use Rattle.oss_syntax.specs.Expressions.{tree, Tree, prefix_level, binary_level, left_level, right_level, allows_prefix, allows_binary};
 

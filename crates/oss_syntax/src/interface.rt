@@ -1,3 +1,5 @@
+//! The items of an interface as they are written. Main items: `InterfaceItem`, `InterfaceItems`.
+
 ghost use Rattle.std.specs.Prelude.{◌≡◌, [], ◌∷◌, ◌++◌, ◌↔◌, IsTrue, OnOk, OnErr, length};
 
 use crate::expression::Expr;

@@ -19,7 +19,7 @@ pub use expression::{BinaryWord, Expr, PortWord, PrefixWord, Role};
 pub use interface::{InterfaceItem, InterfaceItems};
 pub use laws::trees_are_distinct;
 pub use refinement::{RefinementItem, RefinementItems, TargetTree};
-pub use terminal::{Mark, Terminal};
+pub use terminal::Mark;
 pub use token::{Token, TokenKind, Tokens};
 pub use types::{BoundTree, TypeTree};
 pub use words::{PartWord, PartWords, Word, Words};

@@ -1,3 +1,5 @@
+//! The items of a refinement as they are written. Main items: `RefinementItem`, `RefinementItems`.
+
 ghost use Rattle.std.specs.Prelude.{◌≡◌, [], ◌∷◌, ◌++◌, ◌↔◌, IsTrue, OnOk, OnErr, length};
 
 use crate::expression::Expr;

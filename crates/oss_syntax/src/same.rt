@@ -1,8 +1,9 @@
-ghost use Rattle.std.specs.Prelude.{◌≡◌, ◌↔◌, IsTrue, map, option_map};
-ghost use Rattle.oss_base.specs.declared.place.Span.{Span as SpanValue};
+//! Whether two specifications are the same without their spans. Main function: `SpecTree::same`. Allocates nothing.
+
+ghost use Rattle.std.specs.Prelude.{◌≡◌, ◌↔◌, IsTrue, map};
 ghost use Rattle.oss_syntax.specs.Expressions.{tree};
-ghost use Rattle.oss_syntax.specs.Spanless.{no_span, bare_word, bare_part, bare_bound, bare_type, bare_target, bare_tree, bare_item, bare_refinement_part, bare_component, bare_components};
-ghost use Rattle.oss_syntax.specs.Trees.{item_of, part_of, refinement_of, component_of, components_of};
+ghost use Rattle.oss_syntax.specs.Spanless.{bare_bound, bare_type, bare_target, bare_tree, bare_item, AreSameSpecs, AreSameRefinementItems, AreSameRefinements, AreSameMarks};
+ghost use Rattle.oss_syntax.specs.Trees.{item_tree};
 
 use crate::component::{SpecTree, TreeComponent};
 use crate::expression::Expr;
@@ -119,11 +120,11 @@ fn same_target(left: &TargetTree, right: &TargetTree) -> bool
 impl Placeless for InterfaceItem {
     ghost use Rattle.oss_syntax.specs.declared.interface.InterfaceItem.{InterfaceItem};
     ghost use Rattle.oss_syntax.specs.Spanless.{bare_item};
-    ghost use Rattle.oss_syntax.specs.Trees.{Item, item_of};
+    ghost use Rattle.oss_syntax.specs.Trees.{Item, item_tree};
 
     ghost Bare = { Item };
 
-    ghost bare = { λ (item : InterfaceItem). bare_item (item_of item) };
+    ghost bare = { λ (item : InterfaceItem). bare_item (item_tree item) };
 
     fn same(&self, other: &InterfaceItem) -> bool {
         match self {
@@ -157,12 +158,12 @@ impl Placeless for InterfaceItem {
 
 impl Placeless for RefinementItem {
     ghost use Rattle.oss_syntax.specs.declared.refinement.RefinementItem.{RefinementItem};
-    ghost use Rattle.oss_syntax.specs.Spanless.{bare_refinement_part};
-    ghost use Rattle.oss_syntax.specs.Trees.{RefinementPart, part_of};
+    ghost use Rattle.oss_syntax.specs.Spanless.{bare_refinement_item};
+    ghost use Rattle.oss_syntax.specs.Trees.{RefinementItemTree, refinement_item_tree};
 
-    ghost Bare = { RefinementPart };
+    ghost Bare = { RefinementItemTree };
 
-    ghost bare = { λ (item : RefinementItem). bare_refinement_part (part_of item) };
+    ghost bare = { λ (item : RefinementItem). bare_refinement_item (refinement_item_tree item) };
 
     fn same(&self, other: &RefinementItem) -> bool {
         match self {
@@ -193,21 +194,21 @@ impl Placeless for RefinementItem {
 
 /// Whether two interfaces are the same without their spans.
 fn same_items(left: &InterfaceItems, right: &InterfaceItems) -> bool
-    ensures { IsTrue result ↔ (map bare_item (map item_of left.now) ≡ map bare_item (map item_of right.now)) }
+    ensures { IsTrue result ↔ (map bare_item (map item_tree left.now) ≡ map bare_item (map item_tree right.now)) }
 {
     same_all(left.as_slice(), right.as_slice())
 }
 
 /// Whether the items of two refinements are the same without their spans.
 fn same_parts(left: &RefinementItems, right: &RefinementItems) -> bool
-    ensures { IsTrue result ↔ (map bare_refinement_part (map part_of left.now) ≡ map bare_refinement_part (map part_of right.now)) }
+    ensures { IsTrue result ↔ AreSameRefinementItems left.now right.now }
 {
     same_all(left.as_slice(), right.as_slice())
 }
 
 /// Whether two refinements, each of which may be missing, are the same without their spans.
 fn same_refinement(left: &Option<RefinementItems>, right: &Option<RefinementItems>) -> bool
-    ensures { IsTrue result ↔ (option_map (map bare_refinement_part) (refinement_of left.now) ≡ option_map (map bare_refinement_part) (refinement_of right.now)) }
+    ensures { IsTrue result ↔ AreSameRefinements left.now right.now }
 {
     match left {
         Some(items) => match right {
@@ -220,7 +221,7 @@ fn same_refinement(left: &Option<RefinementItems>, right: &Option<RefinementItem
 
 /// Whether both or neither is there.
 fn same_presence(left: &Option<Span>, right: &Option<Span>) -> bool
-    ensures { IsTrue result ↔ (option_map (λ (_ : SpanValue). no_span) left.now ≡ option_map (λ (_ : SpanValue). no_span) right.now) }
+    ensures { IsTrue result ↔ AreSameMarks left.now right.now }
 {
     match left {
         Some(_) => right.is_some(),
@@ -231,11 +232,11 @@ fn same_presence(left: &Option<Span>, right: &Option<Span>) -> bool
 impl Placeless for TreeComponent {
     ghost use Rattle.oss_syntax.specs.declared.component.TreeComponent.{TreeComponent};
     ghost use Rattle.oss_syntax.specs.Spanless.{bare_component};
-    ghost use Rattle.oss_syntax.specs.Trees.{Component, component_of};
+    ghost use Rattle.oss_syntax.specs.Trees.{Component, component_tree};
 
     ghost Bare = { Component };
 
-    ghost bare = { λ (c : TreeComponent). bare_component (component_of c) };
+    ghost bare = { λ (c : TreeComponent). bare_component (component_tree c) };
 
     fn same(&self, other: &TreeComponent) -> bool {
         self.name.same(&other.name)
@@ -248,7 +249,7 @@ impl Placeless for TreeComponent {
 impl SpecTree {
     /// Whether two specifications are the same without their spans.
     pub fn same(&self, other: &SpecTree) -> bool
-        ensures { IsTrue result ↔ (bare_components (components_of self.now) ≡ bare_components (components_of other.now)) }
+        ensures { IsTrue result ↔ AreSameSpecs self.now other.now }
     {
         same_all(self.as_slice(), other.as_slice())
     }

@@ -1,7 +1,9 @@
+//! Levels of operators against the table of the language, and trees that differ in one place.
+
 use crate::{
-    BinaryWord, Expr, InterfaceItem, InterfaceItems, PartWord, PartWords, PrefixWord,
-    RefinementItem, RefinementItems, Role, SpecTree, TargetTree, Token, TokenKind, Tokens,
-    TreeComponent, TypeTree, Word, Words,
+    BinaryWord, BoundTree, Expr, InterfaceItem, InterfaceItems, PartWord, PartWords, PortWord,
+    PrefixWord, RefinementItem, RefinementItems, Role, SpecTree, TargetTree, Token, TokenKind,
+    Tokens, TreeComponent, TypeTree, Word, Words,
 };
 use oss_base::Span;
 use port_types::{Name, NoMemory};
@@ -56,111 +58,180 @@ fn levels_of_words_before_an_operand(rt: HostRuntime) {
     }
 }
 
-/// A name that is written at this offset.
-fn word(alloc: Global, text: &str, start: u32) -> Result<Word, NoMemory> {
-    Ok(Word {
-        text: Name::new(alloc, text)?,
-        span: Span {
-            start,
+/// A place in which no tree differs.
+const NOWHERE: usize = 0;
+
+/// How many places there are in which the trees of these tests can differ.
+const PLACES: usize = 24;
+
+/// The place in which a tree differs from the first one, and the offset at which all of it is written.
+#[derive(Clone, Copy)]
+struct Change {
+    place: usize,
+    start: u32,
+}
+
+impl Change {
+    fn span(self) -> Span {
+        Span {
+            start: self.start,
             end: u32::MAX,
-        },
-    })
+        }
+    }
+
+    /// A name, which is another one where the tree differs in this place.
+    fn word(self, alloc: Global, text: &str, place: usize) -> Result<Word, NoMemory> {
+        Ok(Word {
+            text: Name::new(alloc, if self.place == place { "other" } else { text })?,
+            span: self.span(),
+        })
+    }
 }
 
-/// The contract `c` with `true` as its assumption and `not (a and s.b)` as its guarantee, all of it
-/// written at this offset.
-fn contract(alloc: Global, start: u32) -> Result<InterfaceItem, NoMemory> {
-    let span = Span {
-        start,
-        end: u32::MAX,
+/// `not (a and s.b)`.
+fn operators(alloc: Global, change: Change) -> Result<Expr, NoMemory> {
+    let span = change.span();
+    let left = Expr::name(change.word(alloc, "a", 1)?);
+    let right = Expr::dotted(change.word(alloc, "s", 2)?, change.word(alloc, "b", 3)?);
+    let word = if change.place == 4 {
+        BinaryWord::Or
+    } else {
+        BinaryWord::And
     };
-    let left = Expr::name(word(alloc, "a", start)?);
-    let right = Expr::dotted(word(alloc, "s", start)?, word(alloc, "b", start)?);
-    let both = Expr::binary(alloc, BinaryWord::And, left, right, span)?;
-    let inside = Expr::brackets(alloc, both, span)?;
+    let both = Expr::binary(alloc, word, left, right, span)?;
+    let inside = if change.place == 5 {
+        both
+    } else {
+        Expr::brackets(alloc, both, span)?
+    };
+    let not = if change.place == 6 {
+        PrefixWord::Then
+    } else {
+        PrefixWord::Not
+    };
+    Expr::prefix(alloc, not, inside, span)
+}
+
+/// The contract `c` with `true` as its assumption.
+fn contract(alloc: Global, change: Change) -> Result<InterfaceItem, NoMemory> {
     Ok(InterfaceItem::Contract {
-        name: word(alloc, "c", start)?,
-        assume: Expr::truth(true, span),
-        guarantee: Expr::prefix(alloc, PrefixWord::Not, inside, span)?,
+        name: change.word(alloc, "c", 7)?,
+        assume: Expr::truth(change.place != 8, change.span()),
+        guarantee: operators(alloc, change)?,
     })
 }
 
-/// An interface with a port and a contract.
-fn interface(alloc: Global, start: u32) -> Result<InterfaceItems, NoMemory> {
+/// Ports of a range and of names.
+fn ports(alloc: Global, change: Change) -> Result<(InterfaceItem, InterfaceItem), NoMemory> {
+    let span = change.span();
+    let lo = BoundTree {
+        negative: change.place != 9,
+        value: 0,
+        span,
+    };
+    let hi = BoundTree {
+        negative: false,
+        value: if change.place == 10 { 4 } else { 3 },
+        span,
+    };
     let mut names = Words::new(alloc);
-    names.push(word(alloc, "red", start)?)?;
-    names.push(word(alloc, "green", start)?)?;
-    let mut items = InterfaceItems::new(alloc);
-    items.push(InterfaceItem::Port {
+    names.push(change.word(alloc, "red", 11)?)?;
+    names.push(change.word(alloc, "green", 12)?)?;
+    let range = InterfaceItem::Port {
+        input: change.place != 13,
+        name: change.word(alloc, "n", 14)?,
+        kind: TypeTree::Range { lo, hi },
+    };
+    let light = InterfaceItem::Port {
         input: true,
-        name: word(alloc, "light", start)?,
+        name: change.word(alloc, "light", NOWHERE)?,
         kind: TypeTree::Enum(names),
-    })?;
-    items.push(contract(alloc, start)?)?;
+    };
+    Ok((range, light))
+}
+
+/// An interface with two ports and a contract.
+fn interface(alloc: Global, change: Change) -> Result<InterfaceItems, NoMemory> {
+    let (range, light) = ports(alloc, change)?;
+    let mut items = InterfaceItems::new(alloc);
+    items.push(range)?;
+    items.push(light)?;
+    items.push(contract(alloc, change)?)?;
     Ok(items)
 }
 
 /// A refinement with an item of each kind.
-fn refinement(alloc: Global, start: u32) -> Result<RefinementItems, NoMemory> {
+fn refinement(alloc: Global, change: Change) -> Result<RefinementItems, NoMemory> {
     let mut parts = PartWords::new(alloc);
     parts.push(PartWord {
-        sub: word(alloc, "s", start)?,
-        contract: word(alloc, "d", start)?,
+        sub: change.word(alloc, "s", 15)?,
+        contract: change.word(alloc, "d", 16)?,
     })?;
+    let source = if change.place == 17 {
+        Expr::numeral(1, change.span())
+    } else {
+        Expr::of_port(PortWord::Next, change.word(alloc, "p", 18)?, change.span())
+    };
+    let target = if change.place == 19 {
+        TargetTree::Own(change.word(alloc, "b", NOWHERE)?)
+    } else {
+        TargetTree::OfSub(
+            change.word(alloc, "s", NOWHERE)?,
+            change.word(alloc, "b", NOWHERE)?,
+        )
+    };
     let mut items = RefinementItems::new(alloc);
     items.push(RefinementItem::Sub {
-        name: word(alloc, "s", start)?,
-        component: word(alloc, "T", start)?,
+        name: change.word(alloc, "s", 20)?,
+        component: change.word(alloc, "T", 21)?,
     })?;
-    items.push(RefinementItem::Connection {
-        target: TargetTree::OfSub(word(alloc, "s", start)?, word(alloc, "b", start)?),
-        source: Expr::numeral(1, Span { start, end: start }),
-    })?;
+    items.push(RefinementItem::Connection { target, source })?;
     items.push(RefinementItem::Contract {
-        name: word(alloc, "c", start)?,
+        name: change.word(alloc, "c", NOWHERE)?,
         parts,
     })?;
     Ok(items)
 }
 
-/// A specification with one component of this name.
-fn specification(alloc: Global, name: &str, start: u32) -> Result<SpecTree, NoMemory> {
+/// A specification with one component.
+fn specification(alloc: Global, place: usize, start: u32) -> Result<SpecTree, NoMemory> {
+    let change = Change { place, start };
     let mut tree = SpecTree::new(alloc);
     tree.push(TreeComponent {
-        name: word(alloc, name, start)?,
-        system: Some(Span { start, end: start }),
-        interface: interface(alloc, start)?,
-        refinement: Some(refinement(alloc, start)?),
+        name: change.word(alloc, "S", 22)?,
+        system: if place == 23 {
+            None
+        } else {
+            Some(change.span())
+        },
+        interface: interface(alloc, change)?,
+        refinement: if place == PLACES {
+            None
+        } else {
+            Some(refinement(alloc, change)?)
+        },
     })?;
     Ok(tree)
 }
 
 #[test]
-fn lists_grow_at_the_end(rt: HostRuntime) -> Result<(), Fail> {
-    let tree = specification(rt.alloc(), "S", 0)?;
-    assert_eq!(rt; tree.len(), 1);
-    for component in tree.as_slice() {
-        assert_eq!(rt; component.interface.len(), 2);
-        match &component.refinement {
-            Some(items) => assert_eq!(rt; items.len(), 3),
-            None => assert!(rt; false),
-        }
+fn trees_that_differ_in_one_place(rt: HostRuntime) -> Result<(), Fail> {
+    let tree = specification(rt.alloc(), PLACES + 1, 0)?;
+    for place in 1..PLACES + 2 {
+        let other = specification(rt.alloc(), place, 7)?;
+        assert!(rt; tree.same(&other) == (place == PLACES + 1), "at {place}");
+        assert!(rt; other.same(&tree) == (place == PLACES + 1), "at {place}");
     }
+    assert!(rt; !tree.same(&SpecTree::new(rt.alloc())));
+    Ok(())
+}
+
+#[test]
+fn lists_grow_at_the_end(rt: HostRuntime) -> Result<(), Fail> {
     let mut tokens = Tokens::new(rt.alloc());
     let span = Span { start: 0, end: 1 };
     let kind = TokenKind::Word;
     tokens.push(Token { kind, span })?;
     assert_eq!(rt; tokens.len(), 1);
-    Ok(())
-}
-
-#[test]
-fn spans_make_no_difference_and_names_do(rt: HostRuntime) -> Result<(), Fail> {
-    let tree = specification(rt.alloc(), "S", 0)?;
-    let elsewhere = specification(rt.alloc(), "S", 7)?;
-    let renamed = specification(rt.alloc(), "R", 0)?;
-    assert!(rt; tree.same(&elsewhere));
-    assert!(rt; !tree.same(&renamed));
-    assert!(rt; !tree.same(&SpecTree::new(rt.alloc())));
     Ok(())
 }

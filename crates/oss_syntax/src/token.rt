@@ -1,3 +1,5 @@
+//! Tokens. Main items: `Token`, `Tokens`.
+
 ghost use Rattle.std.specs.Prelude.{◌≡◌, [], ◌∷◌, ◌++◌, ◌↔◌, IsTrue, OnOk, OnErr, length};
 
 use oss_base::Span;

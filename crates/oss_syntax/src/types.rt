@@ -1,3 +1,5 @@
+//! The types of ports as they are written. Main item: `TypeTree`. No code but the types.
+
 use crate::words::Words;
 use oss_base::Span;
 

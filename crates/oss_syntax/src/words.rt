@@ -1,3 +1,5 @@
+//! Names as they are written. Main items: `Word`, `Words`.
+
 ghost use Rattle.std.specs.Prelude.{◌≡◌, [], ◌∷◌, ◌++◌, ◌↔◌, IsTrue, OnOk, OnErr, length};
 
 use oss_base::Span;

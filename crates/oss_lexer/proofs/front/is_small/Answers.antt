@@ -4,8 +4,8 @@ use Rattle.std.proofs.lemmas.Str.Parse.{digits_value-take-le}
 use Rattle.oss_lexer.proofs.Digits.{digit_range, value_more}
 use Rattle.oss_lexer.proofs.front.is_small.Goals as goal
 
-pub returns-then-value-gt1000000 : goal.returns-then-value-gt1000000
-returns-then-value-gt1000000 c =
+pub returns-then-value-gt-LARGEST_NUMERAL : goal.returns-then-value-gt-LARGEST_NUMERAL
+returns-then-value-gt-LARGEST_NUMERAL c =
     let digits = c.args.digits.now in
     let i = c.loop-digit.digit-index in
     let range = digit_range digits c.requires i c.loop-digit-test.true in (

@@ -1,6 +1,7 @@
 use Rattle.std.proofs.Common.{◌+◌, ◌-◌, ◌*◌}
 use Rattle.oss_syntax.specs.Expressions.{tree, height}
-use Rattle.oss_reader.specs.Phrases.{Begins}
+use Rattle.oss_reader.specs.Phrases.{PhrasesGoOnFrom}
+use Rattle.oss_reader.specs.Ahead.{ahead}
 use Rattle.oss_reader.proofs.expressions.+reader.Given as goal
 
 abbrev pub decreases-brackets : goal.decreases-brackets
@@ -20,7 +21,7 @@ decreases-read_step l = 4 * l.room + 2
 
 -- what is read so far begins each phrase
 abbrev pub invariant-expression-operators : goal.invariant-expression-operators
-invariant-expression-operators l = Begins l.role l.room l.max l.terminals (tree l.left.expr) l.rest
+invariant-expression-operators l = PhrasesGoOnFrom l.role l.room l.max (ahead l.terminals) (tree l.left.expr) (ahead l.rest)
 
 -- the height grows
 abbrev pub decreases-expression-operators : goal.decreases-expression-operators

@@ -4,6 +4,7 @@ use Rattle.oss_syntax.specs.Expressions.{tree}
 use Rattle.oss_syntax.specs.Items.{IsItem}
 use Rattle.oss_reader.specs.Reads.{Nothing}
 use Rattle.oss_reader.specs.Rules.{IsContract}
+use Rattle.oss_reader.specs.Ahead.{ahead}
 use Rattle.oss_reader.proofs.Sequences.{on_broken}
 use Rattle.oss_reader.proofs.Rules as rule
 use Rattle.oss_reader.proofs.Results as result
@@ -13,17 +14,19 @@ pub returns-in_err-name-in-None-after : goal.returns-in_err-name-in-None-after
 returns-in_err-name-in-None-after c =
     let p = err_from_is_err_and c.from_residual-in_err-name-in-None-after.result c.from_residual-in_err-name-in-None-after.ensures.1 in
     rw (p.1, p.2)
-    (on_broken c.in_err-name-in-None-after.field-0.0 (Nothing IsContract c.in_ok-more-in-None-after.more.now) (Nothing IsItem c.args.terminals.now)
-    (rule.item_contract_never c.args.terminals.now c.in_ok-more-in-None-after.more.now c.in_ok-more-in-None-after.ensures)
+    (on_broken c.in_err-name-in-None-after.field-0.0 (Nothing IsContract (ahead c.in_ok-more-in-None-after.more)) (Nothing IsItem (ahead c.args.terminals))
+    (rule.item_contract_never (ahead c.args.terminals) (ahead c.in_ok-more-in-None-after.more) c.in_ok-more-in-None-after.ensures)
     c.in_err-name-in-None-after.ensures)
 
 pub returns-in-Some : goal.returns-in-Some
-returns-in-Some c = result.port_result true c.args.terminals.now c.in-Some.ported.now c.port_item.result c.in-Some.ensures c.port_item.ensures
+returns-in-Some c = result.port_result true (ahead c.args.terminals) (ahead c.in-Some.ported) c.port_item.result c.in-Some.ensures c.port_item.ensures
 
 pub returns-in-Some-after : goal.returns-in-Some-after
-returns-in-Some-after c = result.port_result false c.args.terminals.now c.in-Some-after.ported.now c.port_item-in-Some-after.result c.in-Some-after.ensures c.port_item-in-Some-after.ensures
+returns-in-Some-after c = result.port_result false (ahead c.args.terminals)
+    (ahead c.in-Some-after.ported) c.port_item-in-Some-after.result c.in-Some-after.ensures c.port_item-in-Some-after.ensures
 
 pub returns-in_ok-name-in-None-after : goal.returns-in_ok-name-in-None-after
 returns-in_ok-name-in-None-after c =
     let k = c.in_ok-name-in-None-after in
-    rule.item_contract c.args.terminals.now c.in_ok-more-in-None-after.more.now (k.name, tree k.assume, tree k.guarantee) k.left.now c.in_ok-more-in-None-after.ensures k.ensures
+    rule.item_contract (ahead c.args.terminals) (ahead c.in_ok-more-in-None-after.more) (k.name, tree k.assume, tree k.guarantee)
+    (ahead k.left) c.in_ok-more-in-None-after.ensures k.ensures

@@ -1,10 +1,11 @@
 use Rattle.std.proofs.Common.{IsTrue}
-use Rattle.oss_syntax.specs.Spanless.{bare_refinement_part}
-use Rattle.oss_syntax.specs.Trees.{part_of}
+use Rattle.oss_syntax.specs.Spanless.{bare_refinement_item}
+use Rattle.oss_syntax.specs.Trees.{refinement_item_tree}
 use Rattle.oss_syntax.proofs.Lists.{along_both}
 use Rattle.oss_syntax.proofs.same.same_parts.Goals as goal
 
 pub returns : goal.returns
 returns c =
-    along_both bare_refinement_part part_of c.args.left.now c.args.right.now c.as_slice.result.now c.as_slice-2.result.now (IsTrue c.same_all.result)
+    along_both bare_refinement_item refinement_item_tree c.args.left.now c.args.right.now c.as_slice.result.now c.as_slice-2.result.now
+    (IsTrue c.same_all.result)
     c.as_slice.ensures c.as_slice-2.ensures c.same_all.ensures
