@@ -24,8 +24,8 @@ use Rattle.architecture.specs.Architecture.{ports_of, free_targets, free_place}
 use Rattle.architecture.specs.FirstForm as form
 use Rattle.architecture.specs.Tables.{declared_in, AreTables, place_in}
 use Rattle.architecture.proofs.Lookups.{looks_up, places_are}
-use Rattle.architecture.specs.Stands.{target_of, own_port, own_sub, own_wire, own_item, of_wire, KeptWire, AreComponents, IsComponent, items_of, items_from, Stands}
-use Rattle.architecture.specs.Resolving.{first, declared, port_count, item_target, place_among, free_among, free_in, IsMade, IsLeaf, AreLeaves, AreAfter, AreWires, IsSystem}
+use Rattle.architecture.specs.Stands.{target_of, own_port, own_sub, own_wire, own_item, of_wire, KeptWire, AreMadeComponents, IsMadeComponent, items_of, items_from, Stands}
+use Rattle.architecture.specs.Resolving.{first, declared, port_count, item_target, place_among, free_among, free_in, IsMade, IsLeaf, AreLeaves, AreAfter, AreWires, IsMadeSystem}
 use Rattle.architecture.proofs.FreeOrder.{free_targets_are}
 
 -- The specification that is made stands for the tree.
@@ -100,7 +100,7 @@ no_items c h = by c.refinement h
     by (Some items) e = absurd (false≢true e)
 
 leaves_stand : (all : List TreeComponent) (spec : Spec) (n : ℕ) (cs : List TreeComponent) (ms : List Component)
-    → list_all (λ (c : TreeComponent). is_none c.refinement) cs ≡ true → AreLeaves cs ms → AreComponents all spec n cs ms
+    → list_all (λ (c : TreeComponent). is_none c.refinement) cs ≡ true → AreLeaves cs ms → AreMadeComponents all spec n cs ms
 leaves_stand all spec n [] [] none so = tt
 leaves_stand all spec n [] (m ∷ ms) none so = absurd so
 leaves_stand all spec n (c ∷ cs) [] none so = absurd so
@@ -130,7 +130,7 @@ module _ (bytes : List ℕ) (system : TreeComponent) (others : List TreeComponen
     (interfaces_are : tables.interfaces.items ≡ declared (system ∷ others))
     (lack : list_all (λ (c : TreeComponent). is_none c.refinement) others ≡ true)
     (made : Component) (rest : List Component) (items : List Item)
-    (is_made : IsSystem names own tables system made) (are_made : AreLeaves others rest)
+    (is_made : IsMadeSystem names own tables system made) (are_made : AreLeaves others rest)
     (items_are : items ≡ filter_map (own_item bytes first own tables.names (declared_in tables)) (form.refinement_items system)) where
   abbrev whole : Spec
   whole = record { components = made ∷ rest; items = items; system = first }
@@ -187,7 +187,7 @@ pub built : (bytes : List ℕ) (system : TreeComponent) (others components : Lis
     → components ≡ system ∷ others → form.IsFirstForm system others
     → names ≡ form.component_names components → items ≡ form.refinement_items system → subs ≡ form.sub_names items → interfaces.items ≡ declared components
     → AreTables subs interfaces names items tables → tables.interfaces.items ≡ own ∷ rest
-    → IsSystem names own tables system made
+    → IsMadeSystem names own tables system made
     → made_items ≡ filter_map (own_item bytes first own tables.names (declared_in tables)) items
     → AreAfter made others made_components
     → Stands bytes components (record { components = made_components; items = made_items; system = first })

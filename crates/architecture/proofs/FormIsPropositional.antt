@@ -25,7 +25,7 @@ use Rattle.architecture.specs.declared.first_form_interfaces.Declared.{Declared}
 use Rattle.architecture.specs.Architecture.{ports_of, contracts_of, subs_of, wires_of, sub_component, free_targets, free_place, same_target, IsWellFormed, FallsAlongSubs}
 use Rattle.architecture.specs.Names.{has, are_different}
 use Rattle.architecture.specs.FirstForm.{ports, is_interface, is_formula, is_item, is_sub, is_refinement_item, refinement_items, sub_names, component_names, declared_by, declared_by_sub, IsFirstForm}
-use Rattle.architecture.specs.Stands.{Stands, place_of, own_target, sub_target, formula_of, own_port, own_contract, of_contract, own_sub, own_wire, of_wire, IsComponent, AreComponents}
+use Rattle.architecture.specs.Stands.{Stands, place_of, own_target, sub_target, formula_of, own_port, own_contract, of_contract, own_sub, own_wire, of_wire, IsMadeComponent, AreMadeComponents}
 use Rattle.architecture.specs.Propositional.{IsPropositionalSource, IsPropositionalSpec}
 use Rattle.architecture.specs.Laws.{FirstFormIsPropositional}
 use Rattle.architecture.proofs.Positions.{any-within}
@@ -73,10 +73,10 @@ nothing_at : {X Y : Type 0} (h : X → Option Y) (xs : List X) (k : ℕ) (y : Y)
 nothing_at h xs k y none at = none-some y (ap (λ list. slice_get (filter_map h list) k) (sym none) ∙ at)
 
 -- the connections of the system
-system_wire : (all : List TreeComponent) (spec : Spec) (id : ComponentId) (c : TreeComponent) (m : Component) → AreComponents all spec 0 all spec.components
+system_wire : (all : List TreeComponent) (spec : Spec) (id : ComponentId) (c : TreeComponent) (m : Component) → AreMadeComponents all spec 0 all spec.components
     → list_all (λ (other : TreeComponent). is_interface other.interface) all ≡ true → is_interface c.interface ≡ true
     → list_all (is_refinement_item (declared_by c.interface) (declared_by_sub all (refinement_items c))) (refinement_items c) ≡ true
-    → slice_get spec.components id.0 ≡ Some m → IsComponent all spec id c m
+    → slice_get spec.components id.0 ≡ Some m → IsMadeComponent all spec id c m
     → (k : ℕ) (w : Wire) → slice_get (wires_of spec id) k ≡ Some w → IsPropositionalSource (length (free_targets spec id)) w.source
 system_wire all spec id c m are each own items at is k w here =
     let wires_are : wires_of spec id ≡ m.wires = ap (λ (o : Option Component). option_map_or (λ (made : Component). made.wires) o []) at in
@@ -178,10 +178,10 @@ module _ (system : TreeComponent) (others : List TreeComponent) (bytes : List �
       let m = member (λ (made : Component). made.wires) (slice_get spec.components c.0) k w at in
       let found = component_at (system ∷ others) spec 0 (system ∷ others) spec.components stands.components c.0 m.component m.is in
       let own : 0 + c.0 ≡ c.0 = omega arith in
-      let is : IsComponent (system ∷ others) spec c found.tree m.component = subst (λ (i : ℕ). IsComponent (system ∷ others) spec (record { 0 = i }) found.tree m.component) own found.stands in
+      let is : IsMadeComponent (system ∷ others) spec c found.tree m.component = subst (λ (i : ℕ). IsMadeComponent (system ∷ others) spec (record { 0 = i }) found.tree m.component) own found.stands in
       ⊎_elim
       (λ first. system_wire (system ∷ others) spec c system m.component stands.components form.components.interfaces (is_interface_at 0 system refl)
-      form.components.refinement.connected.each m.is (subst (λ (tree : TreeComponent). IsComponent (system ∷ others) spec c tree m.component) (sym first.1) is) k w at)
+      form.components.refinement.connected.each m.is (subst (λ (tree : TreeComponent). IsMadeComponent (system ∷ others) spec c tree m.component) (sym first.1) is) k w at)
       (λ none. absurd (nothing_at (own_wire (declared_by found.tree.interface) (sub_names (refinement_items found.tree)) (declared_by_sub (system ∷ others) (refinement_items found.tree)) (free_place spec c)) (refinement_items found.tree) k (of_wire w) none
       (ap (λ list. slice_get list k) (sym is.wires) ∙ (slice_get-map of_wire m.component.wires k ∙ ap (option_map of_wire) m.at))))
       (only_first system others form.one_refinement c.0 found.tree found.at)

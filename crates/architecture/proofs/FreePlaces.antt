@@ -24,7 +24,7 @@ use Rattle.architecture.specs.declared.first_form_interfaces.Declared.{Declared}
 use Rattle.architecture.specs.Architecture.{ports_of, subs_of, wires_of, ports_at, sub_component, target, targets_at, all_ports, same_sub, same_target, connection, free_targets, free_place}
 use Rattle.architecture.specs.Names.{has, are_different}
 use Rattle.architecture.specs.FirstForm.{ports, inputs, outputs, contracts, is_interface, is_target, is_source, is_refinement_item, sub_names, component_names, declared_by, declared_by_sub, interface_of_sub}
-use Rattle.architecture.specs.Stands.{place_of, own_target, sub_target, target_of, formula_of, own_sub, own_wire, of_wire, truth_of, AreComponents}
+use Rattle.architecture.specs.Stands.{place_of, own_target, sub_target, target_of, formula_of, own_sub, own_wire, of_wire, truth_of, AreMadeComponents}
 use Rattle.architecture.proofs.Targets.{same_target_is, same_target_itself}
 use Rattle.architecture.proofs.Positions.{any-within}
 use Rattle.architecture.proofs.Found.{found_at, none_found, any-filter, any-numbers, any-flat_numbers}
@@ -131,7 +131,7 @@ module _ (all : List TreeComponent) (interface : List InterfaceItem) (items : Li
       places_differ (interface_of_sub all items sub) q.text port differ.0 input o places)
 
   -- what the connections may read is free
-  module _ (spec : Spec) (id : ComponentId) (are : AreComponents all spec 0 all spec.components) (ports_are : length (ports_of spec id) ≡ length (ports interface))
+  module _ (spec : Spec) (id : ComponentId) (are : AreMadeComponents all spec 0 all spec.components) (ports_are : length (ports_of spec id) ≡ length (ports interface))
       (subs_are : subs_of spec id ≡ filter_map (own_sub (component_names all)) items)
       (wires : (k : ℕ) (w : Wire) → slice_get (wires_of spec id) k ≡ Some w → IsConnection own (sub_names items) of_sub (free_place spec id) w) where
     pub own_is_free : (port : List ℕ) → has (inputs interface) port ≡ true → free_place spec id (own_target own port) < length (free_targets spec id)

@@ -52,13 +52,13 @@ module _ {E : Type 0} where
       → AreTables subs interfaces names items tables
       → slice_get tables.interfaces.items 0 ≡ Some own
       → IfOk r (λ yes. IsTrue yes ↔ form.AreItems own (declared_in tables) items)
-      → IfOk r (λ yes. IsTrue yes ↔ form.AreComponents components system)
+      → IfOk r (λ yes. IsTrue yes ↔ form.AreFirstFormComponents components system)
   are_components_gathered components system items names subs interfaces tables own r first items_are named declared sub_names few exist are_tables own_is h =
       gathered r
       (λ are. record {
         components_differ = named.0;
         interfaces = declared.0;
-        refinement = subst (form.IsRefinement components system) items_are (record {
+        refinement = subst (form.IsFirstFormRefinement components system) items_are (record {
           subs_differ = sub_names.0;
           few_instances = subst (λ list. 1 + length list ≤ 4096) sub_names.1 (omega arith);
           subs_exist = exist_all;
@@ -66,7 +66,7 @@ module _ {E : Type 0} where
         });
       })
       (λ are.
-      let refinement = subst (form.IsRefinement components system) (sym items_are) are.refinement in
+      let refinement = subst (form.IsFirstFormRefinement components system) (sym items_are) are.refinement in
       subst (λ d. form.AreItems d (declared_in tables) items) (sym own_declares) (subst (λ of_sub. form.AreItems (form.declared_by system.interface) of_sub items) (sym found) refinement.connected))
       h
     where
@@ -91,7 +91,7 @@ module _ {E : Type 0} where
       → list_all (λ (c : TreeComponent). is_none c.system) others ≡ true
       → list_all (λ (c : TreeComponent). is_none c.refinement) others ≡ true
       → length components ≤ 1024
-      → IfOk r (λ yes. IsTrue yes ↔ form.AreComponents components system)
+      → IfOk r (λ yes. IsTrue yes ↔ form.AreFirstFormComponents components system)
       → IfOk r (λ yes. IsTrue yes ↔ form.IsFirstForm system others)
   is_first_form_gathered components others system r all is_system lack_system lack_refinement few h =
       gathered r
@@ -100,7 +100,7 @@ module _ {E : Type 0} where
         one_system = lack_system;
         one_refinement = lack_refinement;
         few_components = subst (λ list. length list ≤ 1024) all few;
-        components = subst (λ list. form.AreComponents list system) all are;
+        components = subst (λ list. form.AreFirstFormComponents list system) all are;
       })
-      (λ is. subst (λ list. form.AreComponents list system) (sym all) is.components)
+      (λ is. subst (λ list. form.AreFirstFormComponents list system) (sym all) is.components)
       h

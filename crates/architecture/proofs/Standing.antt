@@ -18,7 +18,7 @@ use Rattle.architecture.specs.declared.sub.Sub.{Sub}
 use Rattle.architecture.specs.Architecture.{ports_of, subs_of, sub_component, ports_at}
 use Rattle.architecture.specs.Names.{has}
 use Rattle.architecture.specs.FirstForm.{ports, inputs, is_interface, refinement_items, sub_names, subs, sub_of as declared_sub, component_names, interface_named, interface_of_sub}
-use Rattle.architecture.specs.Stands.{place_of, own_port, own_sub, IsComponent, AreComponents}
+use Rattle.architecture.specs.Stands.{place_of, own_port, own_sub, IsMadeComponent, AreMadeComponents}
 use Rattle.architecture.proofs.Positions.{prefix_len-map}
 use Rattle.architecture.proofs.Lookups.{filter_map-option_map}
 use Rattle.architecture.proofs.Different.{list_any-map}
@@ -40,9 +40,9 @@ member f (Some m) k x h = record { component = m; is = refl; at = h }
 pub record Standing (all : List TreeComponent) (spec : Spec) (trees : List TreeComponent) (n k : ℕ) (made : Component) : Type 0 where
   pub tree : TreeComponent
   pub at : slice_get trees k ≡ Some tree
-  pub stands : IsComponent all spec (record { 0 = n + k }) tree made
+  pub stands : IsMadeComponent all spec (record { 0 = n + k }) tree made
 
-pub component_at : (all : List TreeComponent) (spec : Spec) (n : ℕ) (trees : List TreeComponent) (made : List Component) → AreComponents all spec n trees made
+pub component_at : (all : List TreeComponent) (spec : Spec) (n : ℕ) (trees : List TreeComponent) (made : List Component) → AreMadeComponents all spec n trees made
     → (k : ℕ) (m : Component) → slice_get made k ≡ Some m → Standing all spec trees n k m
 component_at all spec n [] [] are k m e = absurd (none-some m e)
 component_at all spec n [] (made ∷ rest) are k m e = absurd are
@@ -52,12 +52,12 @@ component_at all spec n (c ∷ trees) (made ∷ rest) are zero m e =
     record {
       tree = c;
       at = refl;
-      stands = subst (λ (i : ℕ). IsComponent all spec (record { 0 = i }) c m) here (subst (λ (w : Component). IsComponent all spec (record { 0 = n }) c w) (same_Some made m e) are.0);
+      stands = subst (λ (i : ℕ). IsMadeComponent all spec (record { 0 = i }) c m) here (subst (λ (w : Component). IsMadeComponent all spec (record { 0 = n }) c w) (same_Some made m e) are.0);
     }
 component_at all spec n (c ∷ trees) (made ∷ rest) are (suc k) m e =
     let found : Standing all spec trees (n + 1) k m = component_at all spec (n + 1) trees rest are.1 k m e in
     let here : n + 1 + k ≡ n + suc k = omega arith in
-    record { tree = found.tree; at = found.at; stands = subst (λ (i : ℕ). IsComponent all spec (record { 0 = i }) found.tree m) here found.stands }
+    record { tree = found.tree; at = found.at; stands = subst (λ (i : ℕ). IsMadeComponent all spec (record { 0 = i }) found.tree m) here found.stands }
 
 -- as many ports
 
@@ -66,7 +66,7 @@ own_port_count [] = refl
 own_port_count (interface.Port input name kind ∷ items) = ap suc (own_port_count items)
 own_port_count (interface.Contract name assume guarantee ∷ items) = own_port_count items
 
-pub made_ports : (all : List TreeComponent) (spec : Spec) (id : ComponentId) (c : TreeComponent) (m : Component) → IsComponent all spec id c m → length m.ports ≡ length (ports c.interface)
+pub made_ports : (all : List TreeComponent) (spec : Spec) (id : ComponentId) (c : TreeComponent) (m : Component) → IsMadeComponent all spec id c m → length m.ports ≡ length (ports c.interface)
 made_ports all spec id c m is = ap length is.ports ∙ own_port_count c.interface
 
 abbrev ports_made : Option Component → ℕ
@@ -75,7 +75,7 @@ ports_made o = length (option_map_or (λ (m : Component). m.ports) o [])
 abbrev ports_written : Option TreeComponent → ℕ
 ports_written o = length (ports (option_map_or (λ (c : TreeComponent). c.interface) o []))
 
-port_count_at : (all : List TreeComponent) (spec : Spec) (n : ℕ) (trees : List TreeComponent) (made : List Component) → AreComponents all spec n trees made
+port_count_at : (all : List TreeComponent) (spec : Spec) (n : ℕ) (trees : List TreeComponent) (made : List Component) → AreMadeComponents all spec n trees made
     → (k : ℕ) → ports_made (slice_get made k) ≡ ports_written (slice_get trees k)
 port_count_at all spec n [] [] are k = refl
 port_count_at all spec n [] (m ∷ rest) are k = absurd are
@@ -90,7 +90,7 @@ named_place all name =
     ap (slice_get all) (prefix_len-map (λ (other : List ℕ). not (bytes_eq name other)) (λ (c : TreeComponent). c.name.text) all)
     ∙ sym (find_at (λ (c : TreeComponent). bytes_eq name c.name.text) all)
 
-pub named_ports : (all : List TreeComponent) (spec : Spec) → AreComponents all spec 0 all spec.components → (name : List ℕ)
+pub named_ports : (all : List TreeComponent) (spec : Spec) → AreMadeComponents all spec 0 all spec.components → (name : List ℕ)
     → length (ports_of spec (record { 0 = place_of (component_names all) name })) ≡ length (ports (interface_named all name))
 named_ports all spec are name =
     port_count_at all spec 0 all spec.components are (place_of (component_names all) name) ∙ ap ports_written (named_place all name)
@@ -127,14 +127,14 @@ sub_place components items name =
     ∙ (ap (slice_get (subs items)) (prefix_len-map (λ (other : List ℕ). not (bytes_eq name other)) (λ (sub : List ℕ × List ℕ). sub.0) (subs items))
     ∙ sym (find_at (λ (sub : List ℕ × List ℕ). bytes_eq name sub.0) (subs items)))))
 
-sub_ports_step : (all : List TreeComponent) (spec : Spec) → AreComponents all spec 0 all spec.components → (o : Option (List ℕ × List ℕ))
+sub_ports_step : (all : List TreeComponent) (spec : Spec) → AreMadeComponents all spec 0 all spec.components → (o : Option (List ℕ × List ℕ))
     → length (option_map_or (ports_of spec) (option_map (λ (sub : Sub). sub.component) (option_map (made_sub (component_names all)) o)) [])
     ≡ length (ports (option_map_or (λ (sub : List ℕ × List ℕ). interface_named all sub.1) o []))
 sub_ports_step all spec are None = refl
 sub_ports_step all spec are (Some sub) = named_ports all spec are sub.1
 
 -- as many ports as the interface of the subcomponent has
-pub sub_ports : (all : List TreeComponent) (spec : Spec) → AreComponents all spec 0 all spec.components → (id : ComponentId) (items : List RefinementItem)
+pub sub_ports : (all : List TreeComponent) (spec : Spec) → AreMadeComponents all spec 0 all spec.components → (id : ComponentId) (items : List RefinementItem)
     → subs_of spec id ≡ filter_map (own_sub (component_names all)) items → (name : List ℕ)
     → length (ports_at spec id (Some (record { 0 = place_of (sub_names items) name }))) ≡ length (ports (interface_of_sub all items name))
 sub_ports all spec are id items subs_are name =

@@ -1,3 +1,6 @@
+-- What a specification describes: components with ports, contracts, subcomponents and connections
+-- (Cimatti and Tonetta, Contracts-refinement proof system for component-based embedded systems, 2015).
+-- A component that does not exist has no ports, contracts, subcomponents or connections.
 use Rattle.std.specs.Prelude.{◌≡◌, ℕ, ◌<◌, Bool, true, false, ◌&&◌, List, [], ◌∷◌, ◌++◌, length, map, filter, Option, Some, None, option_map, nat_eq, slice_get, find}
 use Rattle.std.specs.Option.{option_map_or, is_none}
 use Rattle.std.specs.List.{flat_map, range_with_len, position_or_len}
@@ -16,10 +19,6 @@ use Rattle.architecture.specs.declared.wire.Source.{Source}
 use Rattle.architecture.specs.declared.wire.Source.TheVariants as source
 use Rattle.typed_ltl.specs.Formulas.{meaning, number_of, choice_of}
 use Rattle.architecture.specs.Expressions.{IsState, IsStateNumber, IsStateChoice, ReadsBelow}
-
--- What a specification describes: components with ports, contracts, subcomponents and connections
--- (Cimatti and Tonetta, Contracts-refinement proof system for component-based embedded systems, 2015).
--- A component that does not exist has no ports, contracts, subcomponents or connections.
 
 abbrev pub ports_of : Spec → ComponentId → List OwnPort
 ports_of spec c = option_map_or (λ (k : Component). k.ports) (slice_get spec.components c.0) []

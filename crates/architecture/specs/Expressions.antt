@@ -1,8 +1,7 @@
-use Rattle.std.specs.Prelude.{◌≡◌, ℕ, ◌<◌, Bool, false}
-use Rattle.typed_ltl.specs.Formulas.{Number, Choice, Test, Ltl}
-use Rattle.typed_ltl.specs.Formulas as form
-
 -- Expressions over the ports of one valuation, and which ports an expression reads.
+use Rattle.std.specs.Prelude.{◌≡◌, ℕ, ◌<◌, Bool, false}
+use Rattle.typed_ltl.specs.Formulas.{Number, Choice, Proposition, Ltl}
+use Rattle.typed_ltl.specs.Formulas as form
 
 -- A state expression reads one valuation alone: no port under `next`, and no temporal operator (the
 -- state formulas of Manna and Pnueli, The Temporal Logic of Reactive and Concurrent Systems, 1992).
@@ -17,7 +16,7 @@ abbrev pub IsStateChoice : Choice → Type 0
 IsStateChoice (form.Named n) = Unit {0}
 IsStateChoice (form.NameAt p next) = next ≡ false
 
-abbrev pub IsStateTest : Test → Type 0
+abbrev pub IsStateTest : Proposition → Type 0
 IsStateTest (form.TruthAt p next) = next ≡ false
 IsStateTest (form.Equals a b) = IsStateNumber a × IsStateNumber b
 IsStateTest (form.AtMost a b) = IsStateNumber a × IsStateNumber b
@@ -51,7 +50,7 @@ abbrev pub ChoiceReadsBelow : ℕ → Choice → Type 0
 ChoiceReadsBelow n (form.Named name) = Unit {0}
 ChoiceReadsBelow n (form.NameAt p next) = p < n
 
-abbrev pub TestReadsBelow : ℕ → Test → Type 0
+abbrev pub TestReadsBelow : ℕ → Proposition → Type 0
 TestReadsBelow n (form.TruthAt p next) = p < n
 TestReadsBelow n (form.Equals a b) = NumberReadsBelow n a × NumberReadsBelow n b
 TestReadsBelow n (form.AtMost a b) = NumberReadsBelow n a × NumberReadsBelow n b

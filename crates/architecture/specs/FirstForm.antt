@@ -1,6 +1,13 @@
+-- Specifications of the first form: one system of boolean ports whose subcomponents have no refinement,
+-- formulas without temporal words, and names that mean something where they stand (the textual
+-- contract-refinement language of Cimatti, Dorigatti and Tonetta, OCRA: a tool for checking the
+-- refinement of temporal contracts, 2013).
+--
+-- Where a name stands twice, the first counts for every reference.
 use Rattle.std.specs.Prelude.{ℕ, ◌+◌, ◌≤◌, Bool, true, false, not, ◌&&◌, List, [], ◌∷◌, ◌++◌, length, map, filter, filter_map, find, sum_by, Option, Some, None, is_some, is_none, IsTrue, option_map, bytes_eq, nat_le}
 use Rattle.std.specs.Option.{option_map_or}
 use Rattle.std.specs.List.{list_all, list_any}
+use Rattle.oss_base.specs.Limits.{most_components, most_instances, most_parts}
 use Rattle.oss_syntax.specs.Expressions.{Tree, Name, Dotted, Numeral, Truth, Brackets, OfPort, Prefix, Binary, tree}
 use Rattle.oss_syntax.specs.declared.words.PartWord.{PartWord}
 use Rattle.oss_syntax.specs.declared.expression.PrefixWord.{PrefixWord}
@@ -23,23 +30,7 @@ use Rattle.architecture.specs.declared.first_form_refinement.RefinementName.{Ref
 use Rattle.architecture.specs.declared.first_form_refinement.RefinementName.TheVariants as names
 use Rattle.architecture.specs.Names.{has, same_pair, has_pair, are_different}
 
--- Specifications of the first form: one system of boolean ports whose subcomponents have no refinement,
--- formulas without temporal words, and names that mean something where they stand (the textual
--- contract-refinement language of Cimatti, Dorigatti and Tonetta, OCRA: a tool for checking the
--- refinement of temporal contracts, 2013).
---
--- Where a name stands twice, the first counts for every reference.
-
 -- the limits
-
-abbrev pub most_components : ℕ
-most_components = 1024
-
-abbrev pub most_instances : ℕ
-most_instances = 4096
-
-abbrev pub most_parts : ℕ
-most_parts = 24
 
 abbrev pub most_free_ports : ℕ
 most_free_ports = 12
@@ -60,16 +51,16 @@ output_of (interface.Port true name kind) = None
 output_of (interface.Port false name kind) = Some name.text
 output_of (interface.Contract name assume guarantee) = None
 
-abbrev pub contract_of : InterfaceItem → Option (List ℕ)
-contract_of (interface.Port input name kind) = None
-contract_of (interface.Contract name assume guarantee) = Some name.text
+abbrev pub declared_contract : InterfaceItem → Option (List ℕ)
+declared_contract (interface.Port input name kind) = None
+declared_contract (interface.Contract name assume guarantee) = Some name.text
 
 -- the name of this kind that an item declares
 abbrev pub name_of : NameKind → InterfaceItem → Option (List ℕ)
 name_of kinds.Port item = port_of item
 name_of kinds.Input item = input_of item
 name_of kinds.Output item = output_of item
-name_of kinds.Contract item = contract_of item
+name_of kinds.Contract item = declared_contract item
 
 abbrev pub ports : List InterfaceItem → List (List ℕ)
 ports items = filter_map port_of items
@@ -81,7 +72,7 @@ abbrev pub outputs : List InterfaceItem → List (List ℕ)
 outputs items = filter_map output_of items
 
 abbrev pub contracts : List InterfaceItem → List (List ℕ)
-contracts items = filter_map contract_of items
+contracts items = filter_map declared_contract items
 
 -- expressions
 
@@ -121,7 +112,8 @@ is_plain own of_sub (Truth truth span) = true
 is_plain own of_sub (Brackets inside span) = is_plain own of_sub inside
 is_plain own of_sub (OfPort word port span) = false
 is_plain own of_sub (Prefix word operand span) = is_not word && is_plain own of_sub operand
-is_plain own of_sub (Binary word left right span) = (is_connective word && is_plain own of_sub left) && is_plain own of_sub right
+is_plain own of_sub (Binary word left right span) =
+    (is_connective word && is_plain own of_sub left) && is_plain own of_sub right
 
 -- a formula of a contract, over the ports of its own interface
 abbrev pub is_formula : List (List ℕ) → Tree → Bool
@@ -136,7 +128,8 @@ is_boolean (types.Enum names) = false
 -- an item of an interface that has these ports: a boolean port, or a contract over them
 abbrev pub is_item : List (List ℕ) → InterfaceItem → Bool
 is_item names (interface.Port input name kind) = is_boolean kind
-is_item names (interface.Contract name assume guarantee) = is_formula names (tree assume) && is_formula names (tree guarantee)
+is_item names (interface.Contract name assume guarantee) =
+    is_formula names (tree assume) && is_formula names (tree guarantee)
 
 -- An interface: its ports have different names, so do its contracts, its ports are boolean, and each
 -- formula reads its ports alone.
@@ -146,7 +139,8 @@ is_interface items = are_different bytes_eq (ports items)
 
 -- all that an interface declares
 abbrev pub declared_by : List InterfaceItem → Declared
-declared_by items = record { ports = ports items; inputs = inputs items; outputs = outputs items; contracts = contracts items }
+declared_by items =
+    record { ports = ports items; inputs = inputs items; outputs = outputs items; contracts = contracts items }
 
 -- what a refinement names
 
@@ -199,8 +193,8 @@ sub_targets items = filter_map sub_target_of items
 abbrev pub refined : List RefinementItem → List (List ℕ)
 refined items = filter_map refined_of items
 
-abbrev pub pair_of : PartWord → List ℕ × List ℕ
-pair_of part = (part.sub.text, part.contract.text)
+abbrev pub part_pair : PartWord → List ℕ × List ℕ
+part_pair part = (part.sub.text, part.contract.text)
 
 -- the subcomponents of a component, and what their interfaces declare
 
@@ -210,12 +204,15 @@ component_names components = map (λ (c : TreeComponent). c.name.text) component
 -- the interface of the component of this name; a component that does not exist declares nothing
 abbrev pub interface_named : List TreeComponent → List ℕ → List InterfaceItem
 interface_named components name =
-    option_map_or (λ (c : TreeComponent). c.interface) (find (λ (c : TreeComponent). bytes_eq name c.name.text) components) []
+    option_map_or (λ (c : TreeComponent). c.interface)
+    (find (λ (c : TreeComponent). bytes_eq name c.name.text) components) []
 
 -- the interface of the subcomponent of this name
 abbrev pub interface_of_sub : List TreeComponent → List RefinementItem → List ℕ → List InterfaceItem
 interface_of_sub components items name =
-    option_map_or (λ (sub : List ℕ × List ℕ). interface_named components sub.1) (find (λ (sub : List ℕ × List ℕ). bytes_eq name sub.0) (subs items)) []
+    option_map_or (λ (sub : List ℕ
+    × List ℕ). interface_named components sub.1) (find (λ (sub : List ℕ
+    × List ℕ). bytes_eq name sub.0) (subs items)) []
 
 -- what the subcomponent of this name declares
 abbrev pub declared_by_sub : List TreeComponent → List RefinementItem → List ℕ → Declared
@@ -238,12 +235,13 @@ is_part of_sub part = has (of_sub part.sub.text).contracts part.contract.text
 
 abbrev pub are_parts : (List ℕ → Declared) → List PartWord → Bool
 are_parts of_sub parts = nat_le (length parts) most_parts
-    && (list_all (is_part of_sub) parts && are_different same_pair (map pair_of parts))
+    && (list_all (is_part of_sub) parts && are_different same_pair (map part_pair parts))
 
 -- each item names what there is: a refined contract is an own one
 abbrev pub is_refinement_item : Declared → (List ℕ → Declared) → RefinementItem → Bool
 is_refinement_item own of_sub (refinement.Sub name component) = true
-is_refinement_item own of_sub (refinement.Connection target source) = is_target own of_sub target && is_source own of_sub (tree source)
+is_refinement_item own of_sub (refinement.Connection target source) =
+    is_target own of_sub target && is_source own of_sub (tree source)
 is_refinement_item own of_sub (refinement.Contract name parts) = has own.contracts name.text && are_parts of_sub parts
 
 -- a subcomponent is of a component of these names that is not the system
@@ -262,7 +260,8 @@ abbrev pub free_own_ports : Declared → List (List ℕ) → List (List ℕ)
 free_own_ports own connected = own.inputs ++ filter (λ port. not (has connected port)) own.outputs
 
 abbrev pub free_ports_of : Declared → List (List ℕ × List ℕ) → List ℕ → List (List ℕ)
-free_ports_of declared connected sub = declared.outputs ++ filter (λ port. not (has_pair connected (sub, port))) declared.inputs
+free_ports_of declared connected sub =
+    declared.outputs ++ filter (λ port. not (has_pair connected (sub, port))) declared.inputs
 
 abbrev pub free_count : Declared → (List ℕ → Declared) → List RefinementItem → ℕ
 free_count own of_sub items = length (free_own_ports own (own_targets items))
@@ -283,17 +282,18 @@ pub record AreItems (own : Declared) (of_sub : List ℕ → Declared) (items : L
 
 -- The refinement of the system, of which these are the items: no two subcomponents have one name, each
 -- is of a component that exists and is not the system, and they are few.
-pub record IsRefinement (components : List TreeComponent) (system : TreeComponent) (items : List RefinementItem) : Type 0 where
+pub record IsFirstFormRefinement (components : List TreeComponent) (system : TreeComponent) (items : List RefinementItem) : Type
+    0 where
   pub subs_differ : IsTrue (are_different bytes_eq (sub_names items))
   pub few_instances : instance_count items ≤ most_instances
   pub subs_exist : IsTrue (list_all (is_sub (component_names components) system.name.text) items)
   pub connected : AreItems (declared_by system.interface) (declared_by_sub components items) items
 
 -- Components of different names, whose interfaces are of the first form, and the refinement of the system.
-pub record AreComponents (components : List TreeComponent) (system : TreeComponent) : Type 0 where
+pub record AreFirstFormComponents (components : List TreeComponent) (system : TreeComponent) : Type 0 where
   pub components_differ : IsTrue (are_different bytes_eq (component_names components))
   pub interfaces : IsTrue (list_all (λ (c : TreeComponent). is_interface c.interface) components)
-  pub refinement : IsRefinement components system (refinement_items system)
+  pub refinement : IsFirstFormRefinement components system (refinement_items system)
 
 -- One component is the system, and it alone has a refinement.
 pub record IsFirstForm (system : TreeComponent) (others : List TreeComponent) : Type 0 where
@@ -301,19 +301,9 @@ pub record IsFirstForm (system : TreeComponent) (others : List TreeComponent) : 
   pub one_system : IsTrue (list_all (λ (c : TreeComponent). is_none c.system) others)
   pub one_refinement : IsTrue (list_all (λ (c : TreeComponent). is_none c.refinement) others)
   pub few_components : length (system ∷ others) ≤ most_components
-  pub components : AreComponents (system ∷ others) system
+  pub components : AreFirstFormComponents (system ∷ others) system
 
 -- The specification is of the first form. The system is its first component.
 abbrev pub FirstForm : List TreeComponent → Type 0
 FirstForm [] = ⊥
 FirstForm (system ∷ others) = IsFirstForm system others
-
--- some contract is refined
-
-abbrev pub is_refined_item : RefinementItem → Bool
-is_refined_item (refinement.Sub name component) = false
-is_refined_item (refinement.Connection target source) = false
-is_refined_item (refinement.Contract name parts) = true
-
-abbrev pub has_refined_item : List TreeComponent → Bool
-has_refined_item components = list_any (λ (c : TreeComponent). list_any is_refined_item (refinement_items c)) components

@@ -1,7 +1,6 @@
+-- Lists of names, each of which is the list of its bytes.
 use Rattle.std.specs.Prelude.{◌≡◌, ℕ, Bool, true, false, not, ◌&&◌, List, [], ◌∷◌, ◌++◌, Option, Some, None, bytes_eq, String, string_bytes}
 use Rattle.std.specs.List.{list_any}
-
--- Lists of names, each of which is the list of its bytes.
 
 -- the name is one of these
 abbrev pub has : List (List ℕ) → List ℕ → Bool

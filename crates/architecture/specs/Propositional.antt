@@ -1,3 +1,5 @@
+-- Specifications over truth values (propositional linear temporal logic: Manna and Pnueli, The Temporal
+-- Logic of Reactive and Concurrent Systems, 1992).
 use Rattle.std.specs.Prelude.{◌≡◌, ℕ, false, length, Some, slice_get}
 use Rattle.oss_base.specs.declared.ids.ComponentId.{ComponentId}
 use Rattle.port_types.specs.declared.types.PortType.TheVariants as kind
@@ -11,9 +13,6 @@ use Rattle.architecture.specs.declared.wire.Source.{Source}
 use Rattle.architecture.specs.declared.wire.Source.TheVariants as source
 use Rattle.architecture.specs.Expressions.{ReadsBelow}
 use Rattle.architecture.specs.Architecture.{ports_of, contracts_of, wires_of, free_targets, IsWellFormed}
-
--- Specifications over truth values (propositional linear temporal logic: Manna and Pnueli, The Temporal
--- Logic of Reactive and Concurrent Systems, 1992).
 
 -- a formula over truth values alone: it names boolean ports of one valuation, and has no temporal
 -- operator
@@ -43,7 +42,8 @@ IsPropositionalSource n (source.Choice p) = ⊥
 -- Every port is boolean, and every formula and connection is propositional.
 pub record IsPropositionalSpec (spec : Spec) : Type 0 where
   pub well : IsWellFormed spec
-  pub ports : (c : ComponentId) (k : ℕ) (port : OwnPort) → slice_get (ports_of spec c) k ≡ Some port → port.kind ≡ kind.Bool
+  pub ports : (c : ComponentId) (k : ℕ) (port : OwnPort) → slice_get (ports_of spec c) k ≡ Some port → port.kind
+      ≡ kind.Bool
   pub contracts : (c : ComponentId) (d : ℕ) (k : Contract) → slice_get (contracts_of spec c) d ≡ Some k
       → IsPropositional (meaning k.assume) × IsPropositional (meaning k.guarantee)
   pub wires : (c : ComponentId) (n : ℕ) (w : Wire) → slice_get (wires_of spec c) n ≡ Some w

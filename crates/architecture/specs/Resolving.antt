@@ -1,3 +1,4 @@
+-- Serves proofs only: what the tables of names tell, from which a specification is made.
 use Rattle.std.specs.Prelude.{◌≡◌, ℕ, ◌+◌, Bool, not, cond, nat_eq, ◌&&◌, List, [], ◌∷◌, ◌++◌, length, map, filter_map, slice_get, Option, Some, None, option_map, take}
 use Rattle.std.specs.List.{position_or_len, list_any, range_with_len, filter}
 use Rattle.std.specs.Option.{option_map_or}
@@ -37,8 +38,6 @@ use Rattle.architecture.specs.Stands.{place_of, own_target, sub_target, target_o
 use Rattle.architecture.specs.FirstForm.{declared_by, refinement_items, ports as ports_in}
 use Rattle.architecture.specs.Tables.{declared_in}
 
--- What the tables of names tell, from which a specification is made.
-
 -- the place of a port among the free ones
 abbrev pub place_among : List Target → Target → ℕ
 place_among free t = position_or_len (same_target t) free
@@ -51,7 +50,8 @@ own_in (scope.Connection own subs free) port = place_among free.now (own_target 
 
 abbrev pub sub_in : Scope → List ℕ → List ℕ → ℕ
 sub_in (scope.Contract ports) sub port = length ports.now
-sub_in (scope.Connection own subs free) sub port = place_among free.now (sub_target subs.now.names (declared_in subs.now) sub port)
+sub_in (scope.Connection own subs free) sub port =
+    place_among free.now (sub_target subs.now.names (declared_in subs.now) sub port)
 
 -- The ports of a component and of its subcomponents, by their numbers of ports, from subcomponent k on.
 
@@ -129,8 +129,9 @@ free_among own counts connected = filter (is_unconnected connected) (ports_among
 
 -- the parts of a component
 
-abbrev pub contract_of : List (List ℕ) → Word → Tree → Tree → KeptContract
-contract_of ports name assume guarantee = record { name = name.text; assume = kept_formula ports assume; guarantee = kept_formula ports guarantee }
+abbrev pub kept_contract : List (List ℕ) → Word → Tree → Tree → KeptContract
+kept_contract ports name assume guarantee =
+    record { name = name.text; assume = kept_formula ports assume; guarantee = kept_formula ports guarantee }
 
 -- the target of a connection
 abbrev pub item_target : Declared → List (List ℕ) → (List ℕ → Declared) → RefinementItem → Option Target
@@ -141,7 +142,8 @@ item_target own subs of_sub (refinement.Contract name parts) = None
 -- the connection of a target and a source
 abbrev pub wire_of : Declared → List (List ℕ) → (List ℕ → Declared) → (Target → ℕ) → TargetTree → Tree → KeptWire
 wire_of own subs of_sub place t e =
-    let read : Kept = kept (λ port. place (own_target own port)) (λ sub port. place (sub_target subs of_sub sub port)) e in
+    let read : Kept = kept (λ port. place (own_target own port)) (λ sub port. place (sub_target subs of_sub sub port)) e
+    in
     record { target = target_of own subs of_sub t; source = Some read.formula; uses = read.uses }
 
 -- the first component
@@ -149,8 +151,8 @@ abbrev pub first : ComponentId
 first = record { 0 = 0 }
 
 -- the refined contract of a name
-abbrev pub item_of : List ℕ → Declared → List (List ℕ) → (List ℕ → Declared) → Word → List PartWord → Item
-item_of bytes own subs of_sub name parts = record {
+abbrev pub made_item : List ℕ → Declared → List (List ℕ) → (List ℕ → Declared) → Word → List PartWord → Item
+made_item bytes own subs of_sub name parts = record {
   component = first;
   contract = record { 0 = place_of own.contracts name.text };
   place = place_after (take name.span.start bytes);
@@ -190,18 +192,22 @@ AreAfter system others (made ∷ rest) = (made ≡ system) × AreLeaves others r
 -- the free ports of the system
 abbrev pub free_in : Declared → SubTables → List Sub → List RefinementItem → List Target
 free_in own tables subs items =
-    free_among (length own.ports) (map (λ (s : Sub). port_count tables.interfaces.items s.component.0) subs) (filter_map (item_target own tables.names (declared_in tables)) items)
+    free_among (length own.ports) (map (λ (s : Sub). port_count tables.interfaces.items s.component.0) subs)
+    (filter_map (item_target own tables.names (declared_in tables)) items)
 
 abbrev pub AreWires : Declared → SubTables → List Sub → List RefinementItem → List Wire → Type 0
 AreWires own tables subs items wires =
-    map of_wire wires ≡ filter_map (own_wire own tables.names (declared_in tables) (place_among (free_in own tables subs items))) items
+    map of_wire wires ≡ filter_map
+    (own_wire own tables.names (declared_in tables) (place_among (free_in own tables subs items))) items
 
 -- The system is made, where these are the names of all components.
-pub record IsSystem (names : List (List ℕ)) (own : Declared) (tables : SubTables) (c : TreeComponent) (made : Component) : Type 0 where
+pub record IsMadeSystem (names : List (List ℕ)) (own : Declared) (tables : SubTables) (c : TreeComponent) (made : Component)
+    : Type 0 where
   pub interface : IsMade c made
   pub subs : made.subs ≡ filter_map (own_sub names) (refinement_items c)
   pub wires : AreWires own tables made.subs (refinement_items c) made.wires
 
 -- a port as it is shown, if it is there
 abbrev pub free_port : Spec → ComponentId → Target → Option FreePort
-free_port spec c t = option_map (λ (port : OwnPort). record { sub = t.sub; name = port.name; kind = port.kind }) (port_at spec c t)
+free_port spec c t =
+    option_map (λ (port : OwnPort). record { sub = t.sub; name = port.name; kind = port.kind }) (port_at spec c t)

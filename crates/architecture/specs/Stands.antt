@@ -1,3 +1,7 @@
+-- The specification that a tree of the first form stands for (the textual contract-refinement language of
+-- Cimatti, Dorigatti and Tonetta, OCRA: a tool for checking the refinement of temporal contracts, 2013).
+-- Every name stands for the place of the first thing of that name, and for the place past the end where
+-- there is none. So this says something of every tree, but it is asked for those of the first form alone.
 use Rattle.std.specs.Prelude.{◌≡◌, ℕ, ◌+◌, Bool, true, false, cond, nat_eq, List, [], ◌∷◌, ◌++◌, length, map, filter_map, Option, Some, None, take, bytes_eq}
 use Rattle.std.specs.List.{position_or_len}
 use Rattle.oss_base.specs.declared.ids.ComponentId.{ComponentId}
@@ -41,11 +45,6 @@ use Rattle.architecture.specs.declared.wire.Source.TheVariants as source
 use Rattle.architecture.specs.Architecture.{free_place, target}
 use Rattle.architecture.specs.declared.first_form_interfaces.Declared.{Declared}
 use Rattle.architecture.specs.FirstForm.{ports as ports_in, refinement_items, sub_names, component_names, declared_by, declared_by_sub, FirstForm}
-
--- The specification that a tree of the first form stands for (the textual contract-refinement language of
--- Cimatti, Dorigatti and Tonetta, OCRA: a tool for checking the refinement of temporal contracts, 2013).
--- Every name stands for the place of the first thing of that name, and for the place past the end where
--- there is none. So this says something of every tree, but it is asked for those of the first form alone.
 
 -- names
 
@@ -107,7 +106,8 @@ formula_of own of_sub (Truth value span) = truth value
 formula_of own of_sub (Brackets inside span) = formula_of own of_sub inside
 formula_of own of_sub (OfPort word port span) = form.False
 formula_of own of_sub (Prefix word operand span) = before word (formula_of own of_sub operand)
-formula_of own of_sub (Binary word left right span) = between word (formula_of own of_sub left) (formula_of own of_sub right)
+formula_of own of_sub (Binary word left right span) =
+    between word (formula_of own of_sub left) (formula_of own of_sub right)
 
 -- The size of an expression: each operator, port, numeral, enumerator and truth word counts 1, brackets
 -- count 0, a port under `next` counts as the port does, and `rise`, `fall` and `change` count two ports
@@ -148,7 +148,8 @@ count_reads own of_sub (Truth value span) uses = uses
 count_reads own of_sub (Brackets inside span) uses = count_reads own of_sub inside uses
 count_reads own of_sub (OfPort word port span) uses = port_counted word uses (own port.text)
 count_reads own of_sub (Prefix word operand span) uses = count_reads own of_sub operand uses
-count_reads own of_sub (Binary word left right span) uses = count_reads own of_sub right (count_reads own of_sub left uses)
+count_reads own of_sub (Binary word left right span) uses =
+    count_reads own of_sub right (count_reads own of_sub left uses)
 
 abbrev pub uses_of : (List ℕ → ℕ) → (List ℕ → List ℕ → ℕ) → Tree → Uses
 uses_of own of_sub e = record { size = size e; ports = count_reads own of_sub e [] }
@@ -188,11 +189,17 @@ kept_formula ports e = kept (place_of ports) (λ sub port. length ports) e
 abbrev pub own_contract : List (List ℕ) → InterfaceItem → Option KeptContract
 own_contract ports (interface.Port input name kind) = None
 own_contract ports (interface.Contract name assume guarantee) =
-    Some (record { name = name.text; assume = kept_formula ports (tree assume); guarantee = kept_formula ports (tree guarantee) })
+    Some (record {
+      name = name.text;
+      assume = kept_formula ports (tree assume);
+      guarantee = kept_formula ports
+          (tree guarantee);
+    })
 
 -- a subcomponent, where these are the names of all components
 abbrev pub own_sub : List (List ℕ) → RefinementItem → Option Sub
-own_sub components (refinement.Sub name component) = Some (record { name = name.text; component = record { 0 = place_of components component.text } })
+own_sub components (refinement.Sub name component) =
+    Some (record { name = name.text; component = record { 0 = place_of components component.text } })
 own_sub components (refinement.Connection t e) = None
 own_sub components (refinement.Contract name parts) = None
 
@@ -214,31 +221,41 @@ of_wire w = record { target = w.target; source = truth_of w.source; uses = w.use
 abbrev pub own_wire : Declared → List (List ℕ) → (List ℕ → Declared) → (Target → ℕ) → RefinementItem → Option KeptWire
 own_wire own subs of_sub place (refinement.Sub name component) = None
 own_wire own subs of_sub place (refinement.Connection t e) =
-    let read : Kept = kept (λ port. place (own_target own port)) (λ sub port. place (sub_target subs of_sub sub port)) (tree e) in
+    let read : Kept = kept (λ port. place (own_target own port)) (λ sub port. place (sub_target subs of_sub sub port))
+    (tree e) in
     Some (record { target = target_of own subs of_sub t; source = Some read.formula; uses = read.uses })
 own_wire own subs of_sub place (refinement.Contract name parts) = None
 
 -- The component with this number stands for this one.
-pub record IsComponent (all : List TreeComponent) (spec : Spec) (id : ComponentId) (c : TreeComponent) (made : Component) : Type 0 where
+pub record IsMadeComponent (all : List TreeComponent) (spec : Spec) (id : ComponentId) (c : TreeComponent)
+    (made : Component) : Type 0 where
   pub name : made.name ≡ c.name.text
   pub ports : made.ports ≡ filter_map own_port c.interface
   pub contracts : map of_contract made.contracts ≡ filter_map (own_contract (ports_in c.interface)) c.interface
   pub subs : made.subs ≡ filter_map (own_sub (component_names all)) (refinement_items c)
-  pub wires : map of_wire made.wires ≡ filter_map (own_wire (declared_by c.interface) (sub_names (refinement_items c)) (declared_by_sub all (refinement_items c)) (free_place spec id)) (refinement_items c)
+  pub wires : map of_wire made.wires
+      ≡ filter_map (own_wire (declared_by c.interface) (sub_names (refinement_items c))
+      (declared_by_sub all (refinement_items c)) (free_place spec id)) (refinement_items c)
 
 -- the components from number n on
-abbrev pub AreComponents : List TreeComponent → Spec → ℕ → List TreeComponent → List Component → Type 0
-AreComponents all spec n [] [] = Unit {0}
-AreComponents all spec n [] (made ∷ rest) = ⊥
-AreComponents all spec n (c ∷ cs) [] = ⊥
-AreComponents all spec n (c ∷ cs) (made ∷ rest) = IsComponent all spec (record { 0 = n }) c made × AreComponents all spec (n + 1) cs rest
+abbrev pub AreMadeComponents : List TreeComponent → Spec → ℕ → List TreeComponent → List Component → Type 0
+AreMadeComponents all spec n [] [] = Unit {0}
+AreMadeComponents all spec n [] (made ∷ rest) = ⊥
+AreMadeComponents all spec n (c ∷ cs) [] = ⊥
+AreMadeComponents all spec n (c ∷ cs) (made ∷ rest) =
+    IsMadeComponent all spec (record { 0 = n }) c made × AreMadeComponents all spec (n + 1) cs rest
 
 -- refined contracts: each has the place of its name in the text
 
 abbrev pub part_of : List (List ℕ) → (List ℕ → Declared) → PartWord → SubId × ContractId
-part_of subs of_sub part = (record { 0 = place_of subs part.sub.text }, record { 0 = place_of (of_sub part.sub.text).contracts part.contract.text })
+part_of subs of_sub part = (
+  record { 0 = place_of subs part.sub.text },
+  record
+      { 0 = place_of (of_sub part.sub.text).contracts part.contract.text },
+)
 
-abbrev pub own_item : List ℕ → ComponentId → Declared → List (List ℕ) → (List ℕ → Declared) → RefinementItem → Option Item
+abbrev pub own_item : List ℕ → ComponentId → Declared → List (List ℕ) → (List ℕ → Declared) → RefinementItem
+    → Option Item
 own_item bytes id own subs of_sub (refinement.Sub name component) = None
 own_item bytes id own subs of_sub (refinement.Connection t e) = None
 own_item bytes id own subs of_sub (refinement.Contract name parts) = Some (record {
@@ -250,7 +267,8 @@ own_item bytes id own subs of_sub (refinement.Contract name parts) = Some (recor
 
 abbrev pub items_of : List ℕ → List TreeComponent → ComponentId → TreeComponent → List Item
 items_of bytes all id c =
-    filter_map (own_item bytes id (declared_by c.interface) (sub_names (refinement_items c)) (declared_by_sub all (refinement_items c))) (refinement_items c)
+    filter_map (own_item bytes id (declared_by c.interface) (sub_names (refinement_items c))
+    (declared_by_sub all (refinement_items c))) (refinement_items c)
 
 abbrev pub items_from : List ℕ → List TreeComponent → ℕ → List TreeComponent → List Item
 items_from bytes all n [] = []
@@ -258,7 +276,7 @@ items_from bytes all n (c ∷ cs) = items_of bytes all (record { 0 = n }) c ++ i
 
 -- The specification stands for these components of a text of these bytes. The first of them is the system.
 pub record Stands (bytes : List ℕ) (all : List TreeComponent) (spec : Spec) : Type 0 where
-  pub components : AreComponents all spec 0 all spec.components
+  pub components : AreMadeComponents all spec 0 all spec.components
   pub items : spec.items ≡ items_from bytes all 0 all
   pub system : spec.system ≡ record { 0 = 0 }
 

@@ -1,3 +1,4 @@
+-- Serves proofs only: what the tables of names hold.
 use Rattle.std.specs.Prelude.{◌≡◌, ℕ, ◌≤◌, ◌-◌, length, SomeIff, Bool, true, false, List, [], map, filter_map, Option, Some, None, option_and_then, unwrap_or, slice_get, position, bytes_eq, Vec}
 use Rattle.std.specs.List.{list_all}
 use Rattle.oss_syntax.specs.declared.interface.InterfaceItem.{InterfaceItem}
@@ -9,8 +10,6 @@ use Rattle.oss_syntax.specs.declared.refinement.RefinementItem.TheVariants as re
 use Rattle.std.specs.Global.{Global}
 use Rattle.architecture.specs.Names.{same_pair, are_different}
 use Rattle.architecture.specs.FirstForm.{is_interface, declared_by}
-
--- What the tables of names hold.
 
 -- there is a table of these names, in order, exactly where they are different
 abbrev pub IsTableOf : List (List ℕ) → Option (List (List ℕ)) → Type 0
@@ -39,7 +38,8 @@ place_in names (refinement.Contract name parts) = None
 
 -- the tables of the subcomponents among these items: their names, the places of their components among
 -- the names of components, and what the interfaces of all components declare
-pub record AreTables (names : List (List ℕ)) (interfaces : Vec Declared Global) (component_names : List (List ℕ)) (items : List RefinementItem) (tables : SubTables) : Type 0 where
+pub record AreTables (names : List (List ℕ)) (interfaces : Vec Declared Global) (component_names : List (List ℕ))
+    (items : List RefinementItem) (tables : SubTables) : Type 0 where
   pub names_are : tables.names ≡ names
   pub places : tables.components.items ≡ filter_map (place_in component_names) items
   pub interfaces_are : tables.interfaces.items ≡ interfaces.items
@@ -51,7 +51,8 @@ nothing = record { ports = []; inputs = []; outputs = []; contracts = [] }
 -- what the tables tell of a subcomponent
 abbrev pub find_declared : SubTables → List ℕ → Option Declared
 find_declared subs name =
-    option_and_then (λ (sub : ℕ). option_and_then (slice_get subs.interfaces.items) (slice_get subs.components.items sub)) (position (bytes_eq name) subs.names)
+    option_and_then (λ (sub : ℕ). option_and_then (slice_get subs.interfaces.items)
+    (slice_get subs.components.items sub)) (position (bytes_eq name) subs.names)
 
 abbrev pub declared_in : SubTables → List ℕ → Declared
 declared_in subs name = unwrap_or (find_declared subs name) nothing

@@ -1,3 +1,5 @@
+//! Contracts of a component, with the uses of ports by their formulas.
+
 ghost use Rattle.std.specs.Prelude.{◌≡◌, [], ◌∷◌, ◌++◌, ◌↔◌, IsTrue, OnOk, OnErr, length};
 
 use port_types::{Name, NoMemory, PortId};

@@ -1,3 +1,5 @@
+//! Whether a tree is of the first form: `is_first_form`. It reads the tree and makes tables of names.
+
 ghost use Rattle.std.specs.Prelude.{◌≡◌, ◌∷◌, ◌↔◌, ◌≤◌, IsTrue, IfOk, Some, is_none, map, slice_get};
 ghost use Rattle.std.specs.List.{list_all, list_any};
 ghost use Rattle.oss_syntax.specs.declared.component.TreeComponent.{TreeComponent as Component};
@@ -74,7 +76,7 @@ fn are_components(
     system: &TreeComponent,
 ) -> Result<bool, NoMemory>
     requires { slice_get components.now 0 ≡ Some system.now }
-    ensures { IfOk result (λ yes. IsTrue yes ↔ form.AreComponents components.now system.now) }
+    ensures { IfOk result (λ yes. IsTrue yes ↔ form.AreFirstFormComponents components.now system.now) }
 {
     let names = match component_names(alloc, components)? {
         Some(names) => names,
@@ -135,29 +137,4 @@ pub fn is_first_form(alloc: Global, tree: &SpecTree) -> Result<bool, NoMemory>
         Some((system, others)) => is_of_first_form(alloc, components, system, others),
         None => Ok(false),
     }
-}
-
-fn is_refined_item(item: &RefinementItem) -> bool
-    ensures { result ≡ form.is_refined_item item.now }
-{
-    match item {
-        RefinementItem::Sub { .. } => false,
-        RefinementItem::Connection { .. } => false,
-        RefinementItem::Contract { .. } => true,
-    }
-}
-
-fn has_refined(items: &[RefinementItem]) -> bool
-    ensures { result ≡ list_any form.is_refined_item items.now }
-{
-    items.iter().any(|item| is_refined_item(item))
-}
-
-/// Whether some contract of the specification is refined.
-pub fn has_refined_item(tree: &SpecTree) -> bool
-    ensures { result ≡ form.has_refined_item tree.now }
-{
-    tree.as_slice()
-        .iter()
-        .any(|component| has_refined(refinement_items(component)))
 }

@@ -1,3 +1,5 @@
+//! Whether an expression is propositional over given names.
+
 ghost use Rattle.std.specs.Prelude.{◌≡◌};
 ghost use Rattle.oss_syntax.specs.Expressions.{tree};
 ghost use Rattle.architecture.specs.FirstForm as form;
@@ -51,7 +53,8 @@ pub(crate) fn is_formula(expr: &Expr, ports: &NameTable) -> bool
 /// Whether the expression is one of the first form over these inputs and the outputs of
 /// subcomponents.
 pub(crate) fn is_source(expr: &Expr, inputs: &NameTable, subs: &SubTables) -> bool
-    ensures { result ≡ form.is_plain (has inputs.now) (λ sub port. has (declared_in subs.now sub).outputs port) (tree expr.now) }
+    ensures { result ≡ form.is_plain (has inputs.now) (λ sub port. has (declared_in subs.now sub).outputs port)
+        (tree expr.now) }
 {
     match expr {
         Expr::Name(port) => inputs.has(port.text.as_str()),

@@ -1,3 +1,5 @@
+//! Whether the system has few free ports.
+
 ghost use Rattle.std.specs.Prelude.{◌≤◌, ◌-◌, ◌+◌, ◌↔◌, IsTrue, SomeIff, IfOk, not, filter, length, sum_by};
 ghost use Rattle.architecture.specs.FirstForm as form;
 ghost use Rattle.architecture.specs.Names.{has, has_pair};
@@ -46,7 +48,8 @@ fn room_after_inputs(
     sub: &str,
     room: usize,
 ) -> Result<Option<usize>, NoMemory>
-    ensures { IfOk result (λ left. Leaves (filter (λ port. not (has_pair connected.now (sub.now, port))) inputs.now) room left) }
+    ensures { IfOk result (λ left. Leaves (filter (λ port. not (has_pair connected.now (sub.now, port))) inputs.now)
+        room left) }
 {
     let mut left = room;
     for place in 0..inputs.len() {
@@ -96,7 +99,8 @@ fn room_after_named(
     sub: &str,
     room: usize,
 ) -> Result<Option<usize>, NoMemory>
-    ensures { IfOk result (λ left. Leaves (form.free_ports_of (declared_in subs.now sub.now) connected.now sub.now) room left) }
+    ensures { IfOk result (λ left. Leaves (form.free_ports_of (declared_in subs.now sub.now) connected.now sub.now) room
+        left) }
 {
     match subs.find(sub) {
         Some(declared) => room_after_sub(alloc, declared, connected, sub, room),
@@ -112,7 +116,10 @@ pub(crate) fn are_few(
     subs: &SubTables,
     connected: &PairTable,
 ) -> Result<bool, NoMemory>
-    ensures { IfOk result (λ yes. IsTrue yes ↔ (length (form.free_own_ports own.now own_connected.now) + sum_by (λ sub. length (form.free_ports_of (declared_in subs.now sub) connected.now sub)) subs.now.names ≤ form.most_free_ports)) }
+    ensures { IfOk result (λ yes. IsTrue yes
+        ↔ (length (form.free_own_ports own.now own_connected.now) + sum_by
+        (λ sub. length (form.free_ports_of (declared_in subs.now sub) connected.now sub)) subs.now.names ≤
+        form.most_free_ports)) }
 {
     let mut left = match room_after_own(own, own_connected, 12) {
         Some(left) => left,

@@ -1,3 +1,5 @@
+//! The names that interfaces declare, and whether an interface is of the first form.
+
 ghost use Rattle.std.specs.Prelude.{◌≡◌, filter_map, IfOk, option_copied};
 ghost use Rattle.std.specs.List.{list_all};
 ghost use Rattle.architecture.specs.FirstForm as form;

@@ -1,3 +1,5 @@
+//! Whether the items of the system's refinement are of the first form.
+
 ghost use Rattle.std.specs.Prelude.{◌≡◌, map, filter_map, IfOk, option_copied};
 ghost use Rattle.std.specs.List.{list_all};
 ghost use Rattle.architecture.specs.FirstForm as form;
@@ -91,7 +93,7 @@ pub(crate) fn sub_targets(
 
 /// Whether no part stands twice.
 fn are_different_parts(alloc: Global, parts: &[PartWord]) -> Result<bool, NoMemory>
-    ensures { IfOk result (λ yes. yes ≡ are_different same_pair (map form.pair_of parts.now)) }
+    ensures { IfOk result (λ yes. yes ≡ are_different same_pair (map form.part_pair parts.now)) }
 {
     let mut table = PairTable::new(alloc);
     for part in parts {

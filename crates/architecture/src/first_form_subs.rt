@@ -1,3 +1,5 @@
+//! The subcomponents of the system, with tables of the names of their components.
+
 ghost use Rattle.std.specs.Prelude.{◌≡◌, Some, None, filter_map, false, IfOk, MatchOption, slice_get};
 ghost use Rattle.std.specs.List.{list_all};
 ghost use Rattle.architecture.specs.FirstForm as form;
@@ -39,14 +41,16 @@ impl SubTables {
 
     /// What the first component declares.
     pub fn first(&self) -> Option<&Declared>
-        ensures { MatchOption result (slice_get self.now.interfaces.items 0 ≡ None) (λ declared. slice_get self.now.interfaces.items 0 ≡ Some declared.now) }
+        ensures { MatchOption result (slice_get self.now.interfaces.items 0
+            ≡ None) (λ declared. slice_get self.now.interfaces.items 0 ≡ Some declared.now) }
     {
         self.interfaces.first()
     }
 
     /// What the subcomponent of this name declares.
     pub fn find(&self, name: &str) -> Option<&Declared>
-        ensures { MatchOption result (find_declared self.now name.now ≡ None) (λ declared. find_declared self.now name.now ≡ Some declared.now) }
+        ensures { MatchOption result (find_declared self.now name.now
+            ≡ None) (λ declared. find_declared self.now name.now ≡ Some declared.now) }
     {
         match self.names.find(name) {
             None => None,

@@ -1,3 +1,5 @@
+//! The free ports of a component, in their order.
+
 ghost use Rattle.std.specs.Prelude.{◌≡◌, ◌++◌, [], map, length, filter_map, slice_get, IfOk, OnOk};
 ghost use Rattle.std.specs.List.{cons_option};
 ghost use Rattle.std.specs.Option.{option_copied};
@@ -71,7 +73,8 @@ fn port_at<'a>(spec: &'a Spec, c: ComponentId, target: &Target) -> Option<&'a Ow
 /// How many ports each subcomponent has.
 #[tactic(auto, using(crate::proofs::Building::mapped_more))]
 fn port_counts(alloc: Global, spec: &Spec, subs: &[Sub]) -> Result<Vec<usize>, NoMemory>
-    ensures { IfOk result (λ counts. counts.items ≡ map (λ (s : Instance). length (specs.ports_of spec.now s.component)) subs.now) }
+    ensures { IfOk result (λ counts. counts.items
+        ≡ map (λ (s : Instance). length (specs.ports_of spec.now s.component)) subs.now) }
 {
     let mut counts = Vec::new(alloc);
     for sub in subs {
@@ -114,7 +117,7 @@ fn put_port(
     match port_at(spec, c, target) {
         Some(port) => {
             let name = port.name.copy()?;
-            let kind = port.kind.copy(alloc)?;
+            let kind = port.kind.copy()?;
             free.push(FreePort {
                 sub: target.sub,
                 name,

@@ -1,3 +1,5 @@
+//! Refined contracts: the items of a specification.
+
 ghost use Rattle.std.specs.Prelude.{◌≡◌, [], ◌∷◌, ◌++◌, ◌↔◌, IsTrue, OnOk, OnErr, length};
 
 use oss_base::{ComponentId, ContractId, Place, SubId};

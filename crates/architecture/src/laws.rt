@@ -1,3 +1,5 @@
+//! A law about trees of the first form, for callers that cite it. It has no code.
+
 ghost use Rattle.architecture.specs.Laws.{FirstFormIsPropositional};
 
 /// What a tree of the first form stands for is a specification over truth values: well formed, with

@@ -11,8 +11,6 @@ mod first_form_free;
 mod first_form_interfaces;
 mod first_form_refinement;
 mod first_form_subs;
-#[cfg(test)]
-mod first_form_tests;
 mod free_order;
 mod item;
 mod laws;
@@ -37,7 +35,7 @@ mod text_places;
 mod wire;
 
 pub use contract::{Contract, Contracts, PortUses, Uses};
-pub use first_form::{has_refined_item, is_first_form};
+pub use first_form::is_first_form;
 pub use first_form_interfaces::{Declared, NameKind};
 pub use first_form_refinement::RefinementName;
 pub use item::{Item, ItemParts, Items};

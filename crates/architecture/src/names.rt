@@ -1,3 +1,5 @@
+//! Tables of names, and of pairs of names, that tell whether one stood before.
+
 ghost use Rattle.std.specs.Prelude.{◌≡◌, [], OnErr, IfOk, MatchOption, bytes_eq, position, length, slice_get, Some, None, option_copied};
 ghost use Rattle.architecture.specs.Names.{has, has_pair, same_pair, Puts};
 
@@ -37,7 +39,8 @@ impl NameTable {
 
     /// The name at a place, if there are so many.
     pub fn get(&self, place: usize) -> Option<&str>
-        ensures { MatchOption result (slice_get self.now place ≡ None) (λ name. slice_get self.now place ≡ Some name.now) }
+        ensures { MatchOption result (slice_get self.now place ≡ None) (λ name. slice_get self.now place
+            ≡ Some name.now) }
     {
         match self.names.get_index(place) {
             Some(name) => Some(name.as_str()),

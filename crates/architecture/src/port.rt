@@ -1,3 +1,5 @@
+//! Ports of a component, and free ports as they are shown.
+
 ghost use Rattle.std.specs.Prelude.{◌≡◌, [], ◌∷◌, ◌++◌, ◌↔◌, IsTrue, OnOk, OnErr, length};
 
 use oss_base::SubId;

@@ -1,3 +1,5 @@
+//! From an expression of the first form to its formula.
+
 ghost use Rattle.std.specs.Prelude.{◌≡◌, IfOk};
 ghost use Rattle.oss_syntax.specs.Expressions.{tree};
 ghost use Rattle.typed_ltl.specs.Formulas.{meaning};
@@ -93,7 +95,8 @@ fn own_port(scope: &Scope, name: &Word) -> Result<Formula, NoMemory>
 }
 
 fn sub_port(scope: &Scope, sub: &Word, name: &Word) -> Result<Formula, NoMemory>
-    ensures { IfOk result (λ made. meaning made ≡ stands.port_formula (resolving.sub_in scope.now sub.now.text name.now.text)) }
+    ensures { IfOk result (λ made. meaning made
+        ≡ stands.port_formula (resolving.sub_in scope.now sub.now.text name.now.text)) }
 {
     Ok(port(scope.of_sub(sub, name)?))
 }
@@ -101,7 +104,8 @@ fn sub_port(scope: &Scope, sub: &Word, name: &Word) -> Result<Formula, NoMemory>
 /// The formula of an expression.
 #[tactic(auto, using(crate::proofs::Formulas::before_not, crate::proofs::Formulas::before_other, crate::proofs::Formulas::between_joined, crate::proofs::Formulas::between_other))]
 pub(crate) fn formula(alloc: Global, scope: &Scope, expr: &Expr) -> Result<Formula, NoMemory>
-    ensures { IfOk result (λ made. meaning made ≡ stands.formula_of (resolving.own_in scope.now) (resolving.sub_in scope.now) (tree expr.now)) }
+    ensures { IfOk result (λ made. meaning made
+        ≡ stands.formula_of (resolving.own_in scope.now) (resolving.sub_in scope.now) (tree expr.now)) }
 {
     match expr {
         Expr::Name(name) => own_port(scope, name),

@@ -1,3 +1,5 @@
+//! The free ports of a refinement, as rows of targets.
+
 ghost use Rattle.std.specs.Prelude.{◌≡◌, ◌++◌, ◌||◌, [], ◌∷◌, cond, filter, IfOk, OnOk};
 ghost use Rattle.std.specs.List.{list_any};
 ghost use Rattle.architecture.specs.declared.wire.Target.{Target as Port};
@@ -53,7 +55,8 @@ impl TargetTable {
     }
 
     fn add(&mut self, target: &Target) -> Result<(), NoMemory>
-        ensures { OnOk result ((t : Port) → resolving.has_key self.new t ≡ (same_target t target.now || resolving.has_key self.old t)) }
+        ensures { OnOk result ((t : Port) → resolving.has_key self.new t
+            ≡ (same_target t target.now || resolving.has_key self.old t)) }
     {
         let _added = self.keys.insert(key(target))?;
         Ok(())
@@ -81,7 +84,8 @@ fn target_at(sub: Option<SubId>, place: usize) -> Result<Target, NoMemory>
 
 /// Puts a port, where it is free.
 fn put(free: &mut Vec<Target>, connected: &TargetTable, target: Target) -> Result<(), NoMemory>
-    ensures { OnOk result (free.new.items ≡ free.old.items ++ cond (resolving.lacks_key connected.now target) (target ∷ []) []) }
+    ensures { OnOk result (free.new.items ≡ free.old.items
+        ++ cond (resolving.lacks_key connected.now target) (target ∷ []) []) }
 {
     if !connected.has(&target) {
         free.push(target)?;
@@ -96,7 +100,8 @@ fn put_row(
     sub: Option<SubId>,
     count: usize,
 ) -> Result<(), NoMemory>
-    ensures { OnOk result (free.new.items ≡ free.old.items ++ filter (resolving.lacks_key connected.now) (resolving.row sub count)) }
+    ensures { OnOk result (free.new.items ≡ free.old.items
+        ++ filter (resolving.lacks_key connected.now) (resolving.row sub count)) }
 {
     for place in 0..count {
         let target = target_at(sub, place)?;
@@ -112,7 +117,8 @@ fn put_rows(
     connected: &TargetTable,
     counts: &[usize],
 ) -> Result<(), NoMemory>
-    ensures { OnOk result (free.new.items ≡ free.old.items ++ filter (resolving.lacks_key connected.now) (resolving.rows 0 counts.now)) }
+    ensures { OnOk result (free.new.items ≡ free.old.items
+        ++ filter (resolving.lacks_key connected.now) (resolving.rows 0 counts.now)) }
 {
     for (place, count) in counts.iter().enumerate() {
         let sub = SubId(number(place)?);

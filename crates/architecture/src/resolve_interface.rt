@@ -1,3 +1,5 @@
+//! From an interface to ports and contracts.
+
 ghost use Rattle.std.specs.Prelude.{◌≡◌, ◌++◌, [], IfOk, OnOk, filter_map, map};
 ghost use Rattle.std.specs.List.{cons_option};
 ghost use Rattle.oss_syntax.specs.Expressions.{tree};
@@ -70,7 +72,8 @@ fn contract(
     assume: &Expr,
     guarantee: &Expr,
 ) -> Result<Contract, NoMemory>
-    ensures { IfOk result (λ made. stands.of_contract made ≡ resolving.contract_of ports.now name.now (tree assume.now) (tree guarantee.now)) }
+    ensures { IfOk result (λ made. stands.of_contract made
+        ≡ resolving.kept_contract ports.now name.now (tree assume.now) (tree guarantee.now)) }
 {
     let name = name.text.copy()?;
     let assume = kept_expression(alloc, ports, assume)?;
@@ -99,7 +102,8 @@ fn put_contract(
     ports: &NameTable,
     item: &InterfaceItem,
 ) -> Result<(), NoMemory>
-    ensures { OnOk result (map stands.of_contract contracts.new ≡ map stands.of_contract contracts.old ++ cons_option (stands.own_contract ports.now item.now) []) }
+    ensures { OnOk result (map stands.of_contract contracts.new ≡ map stands.of_contract contracts.old
+        ++ cons_option (stands.own_contract ports.now item.now) []) }
 {
     match item {
         InterfaceItem::Port { .. } => Ok(()),
@@ -117,7 +121,8 @@ pub(crate) fn own_contracts(
     ports: &NameTable,
     items: &[InterfaceItem],
 ) -> Result<Contracts, NoMemory>
-    ensures { IfOk result (λ contracts. map stands.of_contract contracts ≡ filter_map (stands.own_contract ports.now) items.now) }
+    ensures { IfOk result (λ contracts. map stands.of_contract contracts
+        ≡ filter_map (stands.own_contract ports.now) items.now) }
 {
     let mut contracts = Contracts::new(alloc);
     for item in items {

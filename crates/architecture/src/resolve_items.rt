@@ -1,3 +1,5 @@
+//! From refined contracts to items, with the places of their names.
+
 ghost use Rattle.std.specs.Prelude.{◌≡◌, ◌++◌, [], IfOk, OnOk, filter_map, map};
 ghost use Rattle.std.specs.List.{cons_option};
 ghost use Rattle.architecture.specs.Stands as stands;
@@ -56,7 +58,8 @@ fn refined(
     parts: &[PartWord],
 ) -> Result<(Item, Cursor), NoMemory>
     requires { resolving.IsAt bytes.now cursor }
-    ensures item { IfOk result (λ made. made.0 ≡ resolving.item_of bytes.now own.now tables.now.names (declared_in tables.now) name.now parts.now) }
+    ensures item { IfOk result (λ made. made.0
+        ≡ resolving.made_item bytes.now own.now tables.now.names (declared_in tables.now) name.now parts.now) }
     ensures cursor { IfOk result (λ made. resolving.IsAt bytes.now made.1) }
 {
     let cursor = cursor.to(bytes, name.span.start as usize)?;
@@ -82,7 +85,9 @@ fn put_item(
     item: &RefinementItem,
 ) -> Result<Cursor, NoMemory>
     requires { resolving.IsAt bytes.now cursor }
-    ensures made { OnOk result (made.new ≡ made.old ++ cons_option (stands.own_item bytes.now resolving.first own.now tables.now.names (declared_in tables.now) item.now) []) }
+    ensures made { OnOk result (made.new ≡ made.old
+        ++ cons_option (stands.own_item bytes.now resolving.first own.now tables.now.names (declared_in tables.now)
+        item.now) []) }
     ensures cursor { IfOk result (λ cursor. resolving.IsAt bytes.now cursor) }
 {
     match item {
@@ -112,7 +117,9 @@ pub(crate) fn refined_items(
     tables: &SubTables,
     items: &[RefinementItem],
 ) -> Result<Items, NoMemory>
-    ensures { IfOk result (λ made. made ≡ filter_map (stands.own_item bytes.now resolving.first own.now tables.now.names (declared_in tables.now)) items.now) }
+    ensures { IfOk result (λ made. made
+        ≡ filter_map (stands.own_item bytes.now resolving.first own.now tables.now.names (declared_in tables.now))
+        items.now) }
 {
     let mut made = Items::new(alloc);
     let mut cursor = Cursor::new(bytes);

@@ -1,3 +1,5 @@
+//! From a refinement to subcomponents and connections.
+
 ghost use Rattle.std.specs.Prelude.{◌≡◌, ◌++◌, [], IfOk, OnOk, filter_map, map, Some};
 ghost use Rattle.std.specs.List.{cons_option};
 ghost use Rattle.oss_syntax.specs.Expressions.{tree};
@@ -55,7 +57,8 @@ fn put_target(
     tables: &SubTables,
     item: &RefinementItem,
 ) -> Result<(), NoMemory>
-    ensures { OnOk result (targets.new.items ≡ targets.old.items ++ cons_option (resolving.item_target own.now tables.now.names (declared_in tables.now) item.now) []) }
+    ensures { OnOk result (targets.new.items ≡ targets.old.items
+        ++ cons_option (resolving.item_target own.now tables.now.names (declared_in tables.now) item.now) []) }
 {
     match item {
         RefinementItem::Sub { .. } => Ok(()),
@@ -74,7 +77,8 @@ pub(crate) fn targets_of(
     tables: &SubTables,
     items: &[RefinementItem],
 ) -> Result<Vec<Target>, NoMemory>
-    ensures { IfOk result (λ targets. targets.items ≡ filter_map (resolving.item_target own.now tables.now.names (declared_in tables.now)) items.now) }
+    ensures { IfOk result (λ targets. targets.items
+        ≡ filter_map (resolving.item_target own.now tables.now.names (declared_in tables.now)) items.now) }
 {
     let mut targets = Vec::new(alloc);
     for item in items {
@@ -91,7 +95,9 @@ fn make_wire(
     target: &TargetTree,
     source: &Expr,
 ) -> Result<Wire, NoMemory>
-    ensures { IfOk result (λ made. stands.of_wire made ≡ resolving.wire_of own.now tables.now.names (declared_in tables.now) (resolving.place_among free.now) target.now (tree source.now)) }
+    ensures { IfOk result (λ made. stands.of_wire made
+        ≡ resolving.wire_of own.now tables.now.names (declared_in tables.now) (resolving.place_among free.now)
+        target.now (tree source.now)) }
 {
     let scope = Scope::Connection(own, tables, free);
     let target = target_of(own, tables, target)?;
@@ -113,7 +119,9 @@ fn put_wire(
     free: &[Target],
     item: &RefinementItem,
 ) -> Result<(), NoMemory>
-    ensures { OnOk result (map stands.of_wire wires.new ≡ map stands.of_wire wires.old ++ cons_option (stands.own_wire own.now tables.now.names (declared_in tables.now) (resolving.place_among free.now) item.now) []) }
+    ensures { OnOk result (map stands.of_wire wires.new ≡ map stands.of_wire wires.old
+        ++ cons_option (stands.own_wire own.now tables.now.names (declared_in tables.now)
+        (resolving.place_among free.now) item.now) []) }
 {
     match item {
         RefinementItem::Sub { .. } => Ok(()),
@@ -132,7 +140,9 @@ pub(crate) fn own_wires(
     free: &[Target],
     items: &[RefinementItem],
 ) -> Result<Wires, NoMemory>
-    ensures { IfOk result (λ wires. map stands.of_wire wires ≡ filter_map (stands.own_wire own.now tables.now.names (declared_in tables.now) (resolving.place_among free.now)) items.now) }
+    ensures { IfOk result (λ wires. map stands.of_wire wires
+        ≡ filter_map (stands.own_wire own.now tables.now.names (declared_in tables.now)
+        (resolving.place_among free.now)) items.now) }
 {
     let mut wires = Wires::new(alloc);
     for item in items {

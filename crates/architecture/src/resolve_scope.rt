@@ -1,3 +1,5 @@
+//! What names mean where they are resolved: places among own ports or in the free order.
+
 ghost use Rattle.std.specs.Prelude.{◌≡◌, IfOk, position};
 ghost use Rattle.architecture.specs.Architecture.{same_target};
 ghost use Rattle.architecture.specs.Tables.{declared_in};
@@ -68,7 +70,8 @@ fn sub_port(subs: &SubTables, sub: &str, port: &str) -> Result<u32, NoMemory>
 }
 
 fn sub_target(subs: &SubTables, sub: &Word, port: &Word) -> Result<Target, NoMemory>
-    ensures { IfOk result (λ t. t ≡ stands.sub_target subs.now.names (declared_in subs.now) sub.now.text port.now.text) }
+    ensures { IfOk result (λ t. t
+        ≡ stands.sub_target subs.now.names (declared_in subs.now) sub.now.text port.now.text) }
 {
     let place = place_in(&subs.names, sub.text.as_str())?;
     let port = sub_port(subs, sub.text.as_str(), port.text.as_str())?;

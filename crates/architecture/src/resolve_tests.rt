@@ -1,6 +1,6 @@
 //! The specifications that small trees stand for, written out.
 
-use crate::{Component, Source, Spec, Target, Uses, Wire, resolve};
+use crate::{Component, Source, Spec, Target, Uses, Wire, is_first_form, resolve};
 use oss_base::{ComponentId, Fault, FaultKind, Place, Span, Stop, SubId};
 use oss_syntax::{
     BinaryWord, Expr, InterfaceItem, InterfaceItems, PartWord, PartWords, PrefixWord,
@@ -288,7 +288,9 @@ fn written(alloc: Global, spec: &Spec) -> Result<String, Fail> {
 #[test]
 fn the_valves_stand_for_their_specification(rt: HostRuntime) -> Result<(), Fail> {
     let alloc = rt.alloc();
-    let spec = resolve(alloc, VALVES.as_bytes(), &valves(alloc)?)?;
+    let valves = valves(alloc)?;
+    assert!(rt; is_first_form(alloc, &valves)?);
+    let spec = resolve(alloc, VALVES.as_bytes(), &valves)?;
     assert_eq!(rt;
         written(alloc, &spec)?.as_str(),
         "\

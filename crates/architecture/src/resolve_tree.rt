@@ -1,3 +1,5 @@
+//! From a tree of the first form to its specification: `resolve`.
+
 ghost use Rattle.std.specs.Prelude.{◌≡◌, ◌∷◌, [], IfOk, IfErr, Some, map, filter_map, slice_get, bytes_eq, true};
 ghost use Rattle.std.specs.List.{list_all};
 ghost use Rattle.oss_syntax.specs.declared.component.TreeComponent.{TreeComponent as Part};
@@ -100,7 +102,8 @@ fn port_count(interfaces: &[Declared], component: ComponentId) -> usize
 /// How many ports each subcomponent has.
 #[tactic(auto, using(crate::proofs::Building::mapped_more))]
 fn port_counts(alloc: Global, interfaces: &[Declared], subs: &[Sub]) -> Result<Vec<usize>, NoMemory>
-    ensures { IfOk result (λ counts. counts.items ≡ map (λ (s : Instance). resolving.port_count interfaces.now s.component.0) subs.now) }
+    ensures { IfOk result (λ counts. counts.items
+        ≡ map (λ (s : Instance). resolving.port_count interfaces.now s.component.0) subs.now) }
 {
     let mut counts = Vec::new(alloc);
     for sub in subs {
@@ -139,7 +142,7 @@ fn system_of(
     tables: &SubTables,
 ) -> Result<Component, NoMemory>
     requires { own.now ≡ form.declared_by system.now.interface }
-    ensures { IfOk result (λ made. resolving.IsSystem names.now own.now tables.now system.now made) }
+    ensures { IfOk result (λ made. resolving.IsMadeSystem names.now own.now tables.now system.now made) }
 {
     let items = items_of(system);
     let subs = own_subs(alloc, names, items)?;

@@ -1,3 +1,5 @@
+//! How often an expression reads each port.
+
 ghost use Rattle.std.specs.Prelude.{◌≡◌, ◌+◌, ◌++◌, [], length, slice_get, IfOk, OnOk};
 ghost use Rattle.std.specs.List.{cons_option};
 ghost use Rattle.oss_syntax.specs.Expressions.{tree};
@@ -108,7 +110,8 @@ fn put_use(uses: &mut PortUses, port_use: Option<(PortId, u32)>) -> Result<(), N
 
 /// Counts the ports that an expression reads.
 fn count(scope: &Scope, expr: &Expr, counts: &mut Counts) -> Result<(), NoMemory>
-    ensures { OnOk result (counts.new ≡ stands.count_reads (resolving.own_in scope.now) (resolving.sub_in scope.now) (tree expr.now) counts.old) }
+    ensures { OnOk result (counts.new
+        ≡ stands.count_reads (resolving.own_in scope.now) (resolving.sub_in scope.now) (tree expr.now) counts.old) }
 {
     match expr {
         Expr::Name(name) => counts.add(scope.own(name)?.0),
@@ -164,7 +167,8 @@ fn size(expr: &Expr) -> Result<u32, NoMemory>
 
 /// How large an expression is, and how often it reads each port.
 pub(crate) fn uses(alloc: Global, scope: &Scope, expr: &Expr) -> Result<Uses, NoMemory>
-    ensures { IfOk result (λ uses. uses ≡ stands.uses_of (resolving.own_in scope.now) (resolving.sub_in scope.now) (tree expr.now)) }
+    ensures { IfOk result (λ uses. uses
+        ≡ stands.uses_of (resolving.own_in scope.now) (resolving.sub_in scope.now) (tree expr.now)) }
 {
     let size = size(expr)?;
     let mut counts = Counts::new(alloc);

@@ -1,3 +1,5 @@
+//! Specifications and their components.
+
 ghost use Rattle.std.specs.Prelude.{◌≡◌, [], ◌∷◌, ◌++◌, ◌↔◌, IsTrue, OnOk, OnErr, length};
 
 use crate::contract::Contracts;

@@ -1,3 +1,5 @@
+//! Subcomponents.
+
 ghost use Rattle.std.specs.Prelude.{◌≡◌, [], ◌∷◌, ◌++◌, ◌↔◌, IsTrue, OnOk, OnErr, length};
 
 use oss_base::ComponentId;

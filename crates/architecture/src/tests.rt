@@ -1,3 +1,5 @@
+//! The lists of a specification, each once with ample memory.
+
 use crate::{
     Component, Components, Contract, Contracts, FreePort, FreePorts, Item, ItemParts, Items,
     OwnPort, OwnPorts, PortUses, Source, Spec, Sub, Subs, Target, Uses, Wire, Wires,

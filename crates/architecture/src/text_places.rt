@@ -1,3 +1,5 @@
+//! Places of names in a text, counted on from one to the next.
+
 ghost use Rattle.std.specs.Prelude.{◌≡◌, ◌++◌, ◌≤◌, [], ◌∷◌, take, IfOk};
 ghost use Rattle.oss_base.specs.Places.{place_after};
 ghost use Rattle.architecture.specs.Resolving.{IsAt, IsNext};

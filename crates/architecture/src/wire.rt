@@ -1,3 +1,5 @@
+//! Connections: targets and sources.
+
 ghost use Rattle.std.specs.Prelude.{◌≡◌, [], ◌∷◌, ◌++◌, ◌↔◌, IsTrue, OnOk, OnErr, length};
 
 use crate::contract::Uses;

@@ -13,26 +13,26 @@ use Rattle.architecture.specs.declared.wire.Target.{Target}
 use Rattle.architecture.specs.Architecture.{ports_of, ports_at, subs_of, wires_of, target, targets_at, all_ports, same_target, connection, free_targets, free_place}
 use Rattle.connections.specs.declared.driving.Driver.{Driver}
 use Rattle.connections.specs.declared.driving.Driver.TheVariants as driver
-use Rattle.connections.specs.Drivers.{place_of, first_wire, driver_of, port_rows, driver_rows}
-use Rattle.connections.specs.Tables.{port_counts, blank, row_of, first_of, noted, noted_rows, noted_wires, vacant, vacant_rows, numbered, numbered_rows}
+use Rattle.connections.specs.Drivers.{first_place, first_wire, driver_of, port_rows, driver_rows}
+use Rattle.connections.specs.Tables.{port_counts, blank, row_of, cell_with_wire, row_with_wire, rows_with_wire, rows_with_wires, vacant, vacant_rows, drivers_of_row, drivers_of_rows}
 use Rattle.connections.proofs.Targets.{same_target_itself, other_target}
 
 -- The tables of drivers are what the definitions say.
 
 -- the place of the first that passes, with one more element at the end
 
-place_of-push_true : {X : Type 0} (p : X → Bool) (xs : List X) (x : X) → p x ≡ true → place_of p (xs ++ x ∷ []) ≡ first_of (place_of p xs) (length xs)
-place_of-push_true p [] x h = rw h refl
-place_of-push_true p (y ∷ xs) x h = step (p y) (place_of p (xs ++ x ∷ [])) (place_of p xs) (length xs) (place_of-push_true p xs x h) where
-  step : (b : Bool) (o q : Option ℕ) (n : ℕ) → o ≡ first_of q n
-      → cond b (Some 0) (option_map (λ (k : ℕ). k + 1) o) ≡ first_of (cond b (Some 0) (option_map (λ (k : ℕ). k + 1) q)) (suc n)
+first_place-push_true : {X : Type 0} (p : X → Bool) (xs : List X) (x : X) → p x ≡ true → first_place p (xs ++ x ∷ []) ≡ cell_with_wire (first_place p xs) (length xs)
+first_place-push_true p [] x h = rw h refl
+first_place-push_true p (y ∷ xs) x h = step (p y) (first_place p (xs ++ x ∷ [])) (first_place p xs) (length xs) (first_place-push_true p xs x h) where
+  step : (b : Bool) (o q : Option ℕ) (n : ℕ) → o ≡ cell_with_wire q n
+      → cond b (Some 0) (option_map (λ (k : ℕ). k + 1) o) ≡ cell_with_wire (cond b (Some 0) (option_map (λ (k : ℕ). k + 1) q)) (suc n)
   step true o q n e = refl
   step false o None n e = rw e (ap Some (omega arith))
   step false o (Some k) n e = rw e refl
 
-place_of-push_false : {X : Type 0} (p : X → Bool) (xs : List X) (x : X) → p x ≡ false → place_of p (xs ++ x ∷ []) ≡ place_of p xs
-place_of-push_false p [] x h = rw h refl
-place_of-push_false p (y ∷ xs) x h = ap (λ (o : Option ℕ). cond (p y) (Some 0) (option_map (λ (k : ℕ). k + 1) o)) (place_of-push_false p xs x h)
+first_place-push_false : {X : Type 0} (p : X → Bool) (xs : List X) (x : X) → p x ≡ false → first_place p (xs ++ x ∷ []) ≡ first_place p xs
+first_place-push_false p [] x h = rw h refl
+first_place-push_false p (y ∷ xs) x h = ap (λ (o : Option ℕ). cond (p y) (Some 0) (option_map (λ (k : ℕ). k + 1) o)) (first_place-push_false p xs x h)
 
 -- the ports of a row in order, from port number a on
 abbrev pub IsRow : Option SubId → ℕ → List Target → Type 0
@@ -62,7 +62,7 @@ row_stays : (ws : List Wire) (w : Wire) (s : Option SubId) (a : ℕ) (row : List
 row_stays ws w s a [] h other = refl
 row_stays ws w s a (t ∷ row) h other =
     let f : same_target w.target t ≡ false = rw h.0 (differs w s a (other a (omega arith))) in
-    let e = place_of-push_false (λ (x : Wire). same_target x.target t) ws w f in
+    let e = first_place-push_false (λ (x : Wire). same_target x.target t) ws w f in
     let r = row_stays ws w s (a + 1) row h.1 (λ k l. other k (omega arith)) in
     cc (e, r)
 
@@ -79,16 +79,16 @@ matches w s a t h e f =
 
 -- a connection to a port of the row is noted there
 row_noted : (ws : List Wire) (w : Wire) (s : Option SubId) (a p : ℕ) (row : List Target) → IsRow s a row → w.target.sub ≡ s → w.target.port.0 ≡ a + p
-    → noted (map (first_wire ws) row) p (length ws) ≡ map (first_wire (ws ++ w ∷ [])) row
+    → row_with_wire (map (first_wire ws) row) p (length ws) ≡ map (first_wire (ws ++ w ∷ [])) row
 row_noted ws w s a p [] h e f = refl
 row_noted ws w s a zero (t ∷ row) h e f =
     let y = matches w s a t h.0 e (omega arith) in
-    let g = place_of-push_true (λ (x : Wire). same_target x.target t) ws w y in
+    let g = first_place-push_true (λ (x : Wire). same_target x.target t) ws w y in
     let r = row_stays ws w s (a + 1) row h.1 (λ k l m n. omega arith) in
     cc (g, r)
 row_noted ws w s a (suc p) (t ∷ row) h e f =
     let g : same_target w.target t ≡ false = rw h.0 (differs w s a (λ m n. omega arith)) in
-    let i = place_of-push_false (λ (x : Wire). same_target x.target t) ws w g in
+    let i = first_place-push_false (λ (x : Wire). same_target x.target t) ws w g in
     let r = row_noted ws w s (a + 1) p row h.1 e (omega arith) in
     cc (i, r)
 
@@ -110,7 +110,7 @@ sub_is None a e = absurd (omega arith)
 sub_is (Some s) a e = let f : s.0 ≡ a = omega arith in ap (λ (n : ℕ). Some (record { 0 = n })) f
 
 sub_rows_noted : (ws : List Wire) (w : Wire) (a r : ℕ) (rows : List (List Target)) → AreSubRows a rows → row_of w.target.sub ≡ a + r + 1
-    → noted_rows (map (map (first_wire ws)) rows) r w.target.port.0 (length ws) ≡ map (map (first_wire (ws ++ w ∷ []))) rows
+    → rows_with_wire (map (map (first_wire ws)) rows) r w.target.port.0 (length ws) ≡ map (map (first_wire (ws ++ w ∷ []))) rows
 sub_rows_noted ws w a r [] h e = refl
 sub_rows_noted ws w a zero (row ∷ rows) h e =
     let f : row_of w.target.sub ≡ a + 1 = omega arith in
@@ -131,7 +131,7 @@ none_is None e = refl
 none_is (Some s) e = absurd (omega arith)
 
 all_rows_noted : (ws : List Wire) (w : Wire) (r : ℕ) (own : List Target) (rows : List (List Target)) → IsRow None 0 own → AreSubRows 0 rows → row_of w.target.sub ≡ r
-    → noted_rows (map (map (first_wire ws)) (own ∷ rows)) r w.target.port.0 (length ws) ≡ map (map (first_wire (ws ++ w ∷ []))) (own ∷ rows)
+    → rows_with_wire (map (map (first_wire ws)) (own ∷ rows)) r w.target.port.0 (length ws) ≡ map (map (first_wire (ws ++ w ∷ []))) (own ∷ rows)
 all_rows_noted ws w zero own rows h k e =
     let g = row_noted ws w None 0 w.target.port.0 own h (none_is w.target.sub e) (omega arith) in
     let i = rows_stay ws w 0 rows k (omega arith) in
@@ -147,11 +147,11 @@ all_rows_noted ws w (suc r) own rows h k e =
 
 -- after noting all connections each cell has the first one of its port
 wires_noted : (ws vs : List Wire) (own : List Target) (rows : List (List Target)) → IsRow None 0 own → AreSubRows 0 rows
-    → noted_wires (map (map (first_wire ws)) (own ∷ rows)) (length ws) vs ≡ map (map (first_wire (ws ++ vs))) (own ∷ rows)
+    → rows_with_wires (map (map (first_wire ws)) (own ∷ rows)) (length ws) vs ≡ map (map (first_wire (ws ++ vs))) (own ∷ rows)
 wires_noted ws [] own rows h k = ap (λ (u : List Wire). map (map (first_wire u)) (own ∷ rows)) (sym (append-nil ws))
 wires_noted ws (v ∷ vs) own rows h k =
-    ap (λ (r : List (List (Option ℕ))). noted_wires r (length ws + 1) vs) (all_rows_noted ws v (row_of v.target.sub) own rows h k refl)
-    ∙ ap (λ (n : ℕ). noted_wires (map (map (first_wire (ws ++ v ∷ []))) (own ∷ rows)) n vs) (sym (length-append ws (v ∷ [])))
+    ap (λ (r : List (List (Option ℕ))). rows_with_wires r (length ws + 1) vs) (all_rows_noted ws v (row_of v.target.sub) own rows h k refl)
+    ∙ ap (λ (n : ℕ). rows_with_wires (map (map (first_wire (ws ++ v ∷ []))) (own ∷ rows)) n vs) (sym (length-append ws (v ∷ [])))
     ∙ wires_noted (ws ++ v ∷ []) vs own rows h k
     ∙ ap (λ (u : List Wire). map (map (first_wire u)) (own ∷ rows)) (append_assoc ws (v ∷ []) vs)
 
@@ -239,7 +239,7 @@ is_free spec c t = is_none (connection spec c t)
 -- the drivers of a row, from the place of its first free port on
 row_numbered : (spec : Spec) (c : ComponentId) (s : Option SubId) (n a : ℕ) (pre row post : List Target)
     → all_ports spec c ≡ pre ++ (row ++ post) → IsRow s a row → Under (row_of s) a pre → n ≡ length (filter (is_free spec c) pre)
-    → numbered n (map (first_wire (wires_of spec c)) row) ≡ map (driver_of spec c) row
+    → drivers_of_row n (map (first_wire (wires_of spec c)) row) ≡ map (driver_of spec c) row
 row_numbered spec c s n a pre [] post all h under e = refl
 row_numbered spec c s n a pre (t ∷ row) post all h under e =
     step (first_wire (wires_of spec c) t) refl
@@ -267,8 +267,8 @@ row_numbered spec c s n a pre (t ∷ row) post all h under e =
       fresh = rw h.0 (fresh_under s a pre under)
 
       step : (o : Option ℕ) → first_wire (wires_of spec c) t ≡ o
-          → ((m : ℕ) → m ≡ length (filter (is_free spec c) (pre ++ t ∷ [])) → numbered m (map (first_wire (wires_of spec c)) row) ≡ map (driver_of spec c) row)
-          → numbered n (o ∷ map (first_wire (wires_of spec c)) row) ≡ option_map_or driver.Wired o (driver.Free (free_place spec c t)) ∷ map (driver_of spec c) row
+          → ((m : ℕ) → m ≡ length (filter (is_free spec c) (pre ++ t ∷ [])) → drivers_of_row m (map (first_wire (wires_of spec c)) row) ≡ map (driver_of spec c) row)
+          → drivers_of_row n (o ∷ map (first_wire (wires_of spec c)) row) ≡ option_map_or driver.Wired o (driver.Free (free_place spec c t)) ∷ map (driver_of spec c) row
       step None f rest =
           let yes : is_free spec c t ≡ true = free ∙ ap is_none f in
           let place : free_place spec c t ≡ n =
@@ -315,7 +315,7 @@ counted_row spec c n pre row e =
 
 sub_rows_numbered : (spec : Spec) (c : ComponentId) (n a : ℕ) (pre : List Target) (rows : List (List Target))
     → all_ports spec c ≡ pre ++ concat rows → AreSubRows a rows → Under (a + 1) 0 pre → n ≡ length (filter (is_free spec c) pre)
-    → numbered_rows n (map (map (first_wire (wires_of spec c))) rows) ≡ map (map (driver_of spec c)) rows
+    → drivers_of_rows n (map (map (first_wire (wires_of spec c))) rows) ≡ map (map (driver_of spec c)) rows
 sub_rows_numbered spec c n a pre [] all h under e = refl
 sub_rows_numbered spec c n a pre (row ∷ rows) all h under e =
     let first = row_numbered spec c (Some (record { 0 = a })) n 0 pre row (concat rows) all h.0 under e in
@@ -331,7 +331,7 @@ concat_is spec c a (suc n) = ap (λ (r : List Target). targets_at spec c (Some (
 
 -- the table, once all connections are noted
 all_noted : (spec : Spec) (c : ComponentId)
-    → noted_wires (map blank (port_counts spec c)) 0 (wires_of spec c) ≡ map (map (first_wire (wires_of spec c))) (port_rows spec c)
+    → rows_with_wires (map blank (port_counts spec c)) 0 (wires_of spec c) ≡ map (map (first_wire (wires_of spec c))) (port_rows spec c)
 all_noted spec c =
     let own = targets_at spec c None in
     let n = length (subs_of spec c) in
@@ -343,7 +343,7 @@ all_noted spec c =
     rw blanks w
 
 pub rows_driven : (spec : Spec) (c : ComponentId)
-    → numbered_rows 0 (noted_wires (map blank (port_counts spec c)) 0 (wires_of spec c)) ≡ driver_rows spec c
+    → drivers_of_rows 0 (rows_with_wires (map blank (port_counts spec c)) 0 (wires_of spec c)) ≡ driver_rows spec c
 rows_driven spec c =
     let own = targets_at spec c None in
     let n = length (subs_of spec c) in
@@ -367,7 +367,7 @@ vacant_rows_is spec c (row ∷ rows) =
 
 -- the number of free ports
 pub rows_vacant : (spec : Spec) (c : ComponentId)
-    → vacant_rows (noted_wires (map blank (port_counts spec c)) 0 (wires_of spec c)) ≡ length (free_targets spec c)
+    → vacant_rows (rows_with_wires (map blank (port_counts spec c)) 0 (wires_of spec c)) ≡ length (free_targets spec c)
 rows_vacant spec c =
     let own = targets_at spec c None in
     let n = length (subs_of spec c) in

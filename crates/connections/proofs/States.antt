@@ -1,9 +1,9 @@
 use Rattle.std.proofs.Common.{◌≡◌, ℕ, ◌+◌, true, false, refl, sym, ◌∙◌}
 use Rattle.std.proofs.lemmas.Bool.{false≢true}
-use Rattle.typed_ltl.specs.Formulas.{Number, Choice, Test, Ltl}
+use Rattle.typed_ltl.specs.Formulas.{Number, Choice, Proposition, Ltl}
 use Rattle.typed_ltl.specs.Formulas as form
 use Rattle.typed_ltl.specs.Traces.{Assignment, Trace}
-use Rattle.typed_ltl.specs.Truth.{Holds, number, choice, test}
+use Rattle.typed_ltl.specs.Truth.{Holds, number_value, choice_name, proposition_truth}
 use Rattle.architecture.specs.Expressions.{IsState, IsStateNumber, IsStateChoice, IsStateTest}
 use Rattle.connections.specs.Substitution.{state_truth, next_number, next_choice, next_test, next_formula}
 use Rattle.connections.specs.Laws.{StateTruthDecides}
@@ -11,7 +11,7 @@ use Rattle.connections.proofs.Tells.{Tells, tells_not, tells_and, tells_or, tell
 
 -- a state expression reads one valuation alone
 
-pub state_number : (now next : Assignment) (n : Number) → IsStateNumber n → number now next n ≡ number now now n
+pub state_number : (now next : Assignment) (n : Number) → IsStateNumber n → number_value now next n ≡ number_value now now n
 state_number now next (form.Literal z) s = refl
 state_number now next (form.NumberAt p true) s = cc
 state_number now next (form.NumberAt p false) s = refl
@@ -19,12 +19,12 @@ state_number now next (form.Sum a b) s = cc (state_number now next a s.0, state_
 state_number now next (form.Difference a b) s = cc (state_number now next a s.0, state_number now next b s.1)
 state_number now next (form.Opposite a) s = cc (state_number now next a s)
 
-pub state_choice : (now next : Assignment) (n : Choice) → IsStateChoice n → choice now next n ≡ choice now now n
+pub state_choice : (now next : Assignment) (n : Choice) → IsStateChoice n → choice_name now next n ≡ choice_name now now n
 state_choice now next (form.Named n) s = refl
 state_choice now next (form.NameAt p true) s = cc
 state_choice now next (form.NameAt p false) s = refl
 
-pub state_test : (now next : Assignment) (t : Test) → IsStateTest t → test now next t ≡ test now now t
+pub state_test : (now next : Assignment) (t : Proposition) → IsStateTest t → proposition_truth now next t ≡ proposition_truth now now t
 state_test now next (form.TruthAt p true) s = cc
 state_test now next (form.TruthAt p false) s = refl
 state_test now next (form.Equals a b) s = cc (state_number now next a s.0, state_number now next b s.1)
@@ -55,7 +55,7 @@ state_truth_decides w f i s = state_tells w i f s
 
 -- the same expression in the next valuation
 
-pub number-next : (now next : Assignment) (n : Number) → number now next (next_number n) ≡ number next next n
+pub number-next : (now next : Assignment) (n : Number) → number_value now next (next_number n) ≡ number_value next next n
 number-next now next (form.Literal z) = refl
 number-next now next (form.NumberAt p true) = refl
 number-next now next (form.NumberAt p false) = refl
@@ -63,12 +63,12 @@ number-next now next (form.Sum a b) = cc (number-next now next a, number-next no
 number-next now next (form.Difference a b) = cc (number-next now next a, number-next now next b)
 number-next now next (form.Opposite a) = cc (number-next now next a)
 
-pub choice-next : (now next : Assignment) (n : Choice) → choice now next (next_choice n) ≡ choice next next n
+pub choice-next : (now next : Assignment) (n : Choice) → choice_name now next (next_choice n) ≡ choice_name next next n
 choice-next now next (form.Named n) = refl
 choice-next now next (form.NameAt p true) = refl
 choice-next now next (form.NameAt p false) = refl
 
-pub test-next : (now next : Assignment) (t : Test) → test now next (next_test t) ≡ test next next t
+pub test-next : (now next : Assignment) (t : Proposition) → proposition_truth now next (next_test t) ≡ proposition_truth next next t
 test-next now next (form.TruthAt p true) = refl
 test-next now next (form.TruthAt p false) = refl
 test-next now next (form.Equals a b) = cc (number-next now next a, number-next now next b)

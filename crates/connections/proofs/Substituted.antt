@@ -3,10 +3,10 @@ use Rattle.std.proofs.lemmas.Bool.{false≢true}
 use Rattle.std.specs.Option.{option_map_or}
 use Rattle.oss_base.specs.declared.ids.ComponentId.{ComponentId}
 use Rattle.port_types.specs.declared.types.Value.{Value}
-use Rattle.typed_ltl.specs.Formulas.{Number, Choice, Test, Ltl}
+use Rattle.typed_ltl.specs.Formulas.{Number, Choice, Proposition, Ltl}
 use Rattle.typed_ltl.specs.Formulas as form
 use Rattle.typed_ltl.specs.Traces.{Assignment, Trace}
-use Rattle.typed_ltl.specs.Truth.{Holds, number, choice, test, as_truth, as_number, as_name, read}
+use Rattle.typed_ltl.specs.Truth.{Holds, number_value, choice_name, proposition_truth, as_truth, as_number, as_name, read_value}
 use Rattle.architecture.specs.declared.spec.Spec.{Spec}
 use Rattle.architecture.specs.declared.wire.Wire.{Wire}
 use Rattle.architecture.specs.declared.wire.Target.{Target}
@@ -25,7 +25,7 @@ abbrev pub value_at : Assignment → Assignment → Reading → Bool → Value
 value_at now next r false = reading_value now r
 value_at now next r true = reading_value next r
 
-pub number_reading : (now next : Assignment) (r : Reading) (b : Bool) → IsStateReading r → as_number (value_at now next r b) ≡ number now next (number_for r b)
+pub number_reading : (now next : Assignment) (r : Reading) (b : Bool) → IsStateReading r → as_number (value_at now next r b) ≡ number_value now next (number_for r b)
 number_reading now next (by.Free k) false s = refl
 number_reading now next (by.Free k) true s = refl
 number_reading now next (by.OfTruth f) false s = refl
@@ -35,7 +35,7 @@ number_reading now next (by.OfNumber n) true s = sym (number-next now next n)
 number_reading now next (by.OfChoice n) false s = refl
 number_reading now next (by.OfChoice n) true s = refl
 
-pub name_reading : (now next : Assignment) (r : Reading) (b : Bool) → IsStateReading r → as_name (value_at now next r b) ≡ choice now next (choice_for r b)
+pub name_reading : (now next : Assignment) (r : Reading) (b : Bool) → IsStateReading r → as_name (value_at now next r b) ≡ choice_name now next (choice_for r b)
 name_reading now next (by.Free k) false s = refl
 name_reading now next (by.Free k) true s = refl
 name_reading now next (by.OfTruth f) false s = refl
@@ -61,12 +61,12 @@ pub record Follows (n : ℕ) (by : ℕ → Reading) (free w : Trace) : Type 0 wh
   pub states : (k : ℕ) → k < n → IsStateReading (by k)
 
 pub read-follows : (n : ℕ) (by : ℕ → Reading) (free w : Trace) → Follows n by free w → (i p : ℕ) (b : Bool) → p < n
-    → read (w i) (w (i + 1)) p b ≡ value_at (free i) (free (i + 1)) (by p) b
+    → read_value (w i) (w (i + 1)) p b ≡ value_at (free i) (free (i + 1)) (by p) b
 read-follows n by free w h i p true l = h.values (i + 1) p l
 read-follows n by free w h i p false l = h.values i p l
 
 pub number-follows : (n : ℕ) (by : ℕ → Reading) (free w : Trace) → Follows n by free w → (i : ℕ) (m : Number) → NumberReadsBelow n m
-    → number (w i) (w (i + 1)) m ≡ number (free i) (free (i + 1)) (substituted_number by m)
+    → number_value (w i) (w (i + 1)) m ≡ number_value (free i) (free (i + 1)) (substituted_number by m)
 number-follows n by free w h i (form.Literal z) l = refl
 number-follows n by free w h i (form.NumberAt p b) l =
     ap as_number (read-follows n by free w h i p b l) ∙ number_reading (free i) (free (i + 1)) (by p) b (h.states p l)
@@ -75,7 +75,7 @@ number-follows n by free w h i (form.Difference a b) l = cc (number-follows n by
 number-follows n by free w h i (form.Opposite a) l = cc (number-follows n by free w h i a l)
 
 pub choice-follows : (n : ℕ) (by : ℕ → Reading) (free w : Trace) → Follows n by free w → (i : ℕ) (m : Choice) → ChoiceReadsBelow n m
-    → choice (w i) (w (i + 1)) m ≡ choice (free i) (free (i + 1)) (substituted_choice by m)
+    → choice_name (w i) (w (i + 1)) m ≡ choice_name (free i) (free (i + 1)) (substituted_choice by m)
 choice-follows n by free w h i (form.Named z) l = refl
 choice-follows n by free w h i (form.NameAt p b) l =
     ap as_name (read-follows n by free w h i p b l) ∙ name_reading (free i) (free (i + 1)) (by p) b (h.states p l)
@@ -83,8 +83,8 @@ choice-follows n by free w h i (form.NameAt p b) l =
 same_along : (b c : Bool) → b ≡ c → (b ≡ true) ↔ (c ≡ true)
 same_along b c e = (λ h. sym e ∙ h, λ h. e ∙ h)
 
-pub test_follows : (n : ℕ) (by : ℕ → Reading) (free w : Trace) → Follows n by free w → (i : ℕ) (t : Test) → TestReadsBelow n t
-    → (test (w i) (w (i + 1)) t ≡ true) ↔ Holds free (substituted_test by t) i
+pub test_follows : (n : ℕ) (by : ℕ → Reading) (free w : Trace) → Follows n by free w → (i : ℕ) (t : Proposition) → TestReadsBelow n t
+    → (proposition_truth (w i) (w (i + 1)) t ≡ true) ↔ Holds free (substituted_test by t) i
 test_follows n by free w h i (form.TruthAt p b) l =
     let e = ap as_truth (read-follows n by free w h i p b l) in
     let t = truth_reading free i (by p) b (h.states p l) in

@@ -1,3 +1,4 @@
+-- What drives the ports that a refinement speaks of.
 use Rattle.std.specs.Prelude.{ℕ, ◌+◌, Bool, cond, List, [], ◌∷◌, map, length, Option, Some, None, option_map}
 use Rattle.std.specs.Option.{option_map_or}
 use Rattle.std.specs.List.{range_with_len}
@@ -9,16 +10,14 @@ use Rattle.architecture.specs.Architecture.{subs_of, wires_of, same_target, targ
 use Rattle.connections.specs.declared.driving.Driver.{Driver}
 use Rattle.connections.specs.declared.driving.Driver.TheVariants as driver
 
--- What drives the ports that a refinement speaks of.
-
 -- the place of the first element that passes
-abbrev pub place_of : {X : Type 0} → (X → Bool) → List X → Option ℕ
-place_of p [] = None
-place_of p (x ∷ xs) = cond (p x) (Some 0) (option_map (λ (k : ℕ). k + 1) (place_of p xs))
+abbrev pub first_place : {X : Type 0} → (X → Bool) → List X → Option ℕ
+first_place p [] = None
+first_place p (x ∷ xs) = cond (p x) (Some 0) (option_map (λ (k : ℕ). k + 1) (first_place p xs))
 
 -- the first of the connections that drives a port
 abbrev pub first_wire : List Wire → Target → Option ℕ
-first_wire wires t = place_of (λ (w : Wire). same_target w.target t) wires
+first_wire wires t = first_place (λ (w : Wire). same_target w.target t) wires
 
 -- a port is driven by the first connection that has it as its target, or free
 abbrev pub driver_of : Spec → ComponentId → Target → Driver

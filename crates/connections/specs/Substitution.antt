@@ -1,13 +1,16 @@
+-- Substitution of connections (Cimatti and Tonetta, Contracts-refinement proof system for
+-- component-based embedded systems, 2015: the connections of a refinement give each connected port a
+-- term over the others).
 use Rattle.std.specs.Prelude.{ℕ, Bool, true, false, cond, not, ◌&&◌, ◌||◌, Option, [], pos}
 use Rattle.std.specs.Option.{option_map_or}
 use Rattle.oss_base.specs.declared.ids.ComponentId.{ComponentId}
 use Rattle.oss_base.specs.declared.ids.SubId.{SubId}
 use Rattle.port_types.specs.declared.types.Value.{Value}
 use Rattle.port_types.specs.declared.types.Value.TheVariants as value
-use Rattle.typed_ltl.specs.Formulas.{Number, Choice, Test, Ltl, meaning, number_of, choice_of}
+use Rattle.typed_ltl.specs.Formulas.{Number, Choice, Proposition, Ltl, meaning, number_of, choice_of}
 use Rattle.typed_ltl.specs.Formulas as form
 use Rattle.typed_ltl.specs.Traces.{Assignment}
-use Rattle.typed_ltl.specs.Truth.{number, choice, test}
+use Rattle.typed_ltl.specs.Truth.{number_value, choice_name, proposition_truth}
 use Rattle.architecture.specs.declared.spec.Spec.{Spec}
 use Rattle.architecture.specs.declared.wire.Wire.{Wire}
 use Rattle.architecture.specs.declared.wire.Target.{Target}
@@ -16,16 +19,12 @@ use Rattle.architecture.specs.declared.wire.Source.TheVariants as source
 use Rattle.architecture.specs.Expressions.{IsState, IsStateNumber, IsStateChoice}
 use Rattle.architecture.specs.Architecture.{connection, free_place, target}
 
--- Substitution of connections (Cimatti and Tonetta, Contracts-refinement proof system for
--- component-based embedded systems, 2015: the connections of a refinement give each connected port a
--- term over the others).
-
 -- The truth value of a formula at a valuation and the next one. A temporal formula has none, and counts
 -- as false.
 abbrev pub step_truth : Assignment → Assignment → Ltl → Bool
 step_truth now next form.True = true
 step_truth now next form.False = false
-step_truth now next (form.Atomic a) = test now next a
+step_truth now next (form.Atomic a) = proposition_truth now next a
 step_truth now next (form.Not f) = not (step_truth now next f)
 step_truth now next (form.And f g) = step_truth now next f && step_truth now next g
 step_truth now next (form.Or f g) = step_truth now next f || step_truth now next g
@@ -56,7 +55,8 @@ source_reading (source.Number t) = OfNumber (number_of t)
 source_reading (source.Choice p) = OfChoice (choice_of p)
 
 abbrev pub reading : Spec → ComponentId → Target → Reading
-reading spec c t = option_map_or (λ (w : Wire). source_reading w.source) (connection spec c t) (Free (free_place spec c t))
+reading spec c t = option_map_or (λ (w : Wire). source_reading w.source) (connection spec c t) (Free (free_place spec c
+    t))
 
 -- the readings of the ports of the component itself, or of one of its subcomponents
 abbrev pub readings : Spec → ComponentId → Option SubId → ℕ → Reading
@@ -66,8 +66,8 @@ readings spec c s k = reading spec c (target s k)
 abbrev pub reading_value : Assignment → Reading → Value
 reading_value free (Free k) = free k
 reading_value free (OfTruth f) = value.Bool (state_truth free f)
-reading_value free (OfNumber n) = value.Int (number free free n)
-reading_value free (OfChoice n) = value.Name (choice free free n)
+reading_value free (OfNumber n) = value.Int (number_value free free n)
+reading_value free (OfChoice n) = value.Name (choice_name free free n)
 
 -- the value of a port, where the free ports have these values: for a connected one that of its
 -- connection's expression
@@ -86,7 +86,7 @@ abbrev pub next_choice : Choice → Choice
 next_choice (form.Named n) = form.Named n
 next_choice (form.NameAt p next) = form.NameAt p true
 
-abbrev pub next_test : Test → Test
+abbrev pub next_test : Proposition → Proposition
 next_test (form.TruthAt p next) = form.TruthAt p true
 next_test (form.Equals a b) = form.Equals (next_number a) (next_number b)
 next_test (form.AtMost a b) = form.AtMost (next_number a) (next_number b)
@@ -143,11 +143,12 @@ abbrev pub substituted_choice : (ℕ → Reading) → Choice → Choice
 substituted_choice by (form.Named n) = form.Named n
 substituted_choice by (form.NameAt p next) = choice_for (by p) next
 
-abbrev pub substituted_test : (ℕ → Reading) → Test → Ltl
+abbrev pub substituted_test : (ℕ → Reading) → Proposition → Ltl
 substituted_test by (form.TruthAt p next) = truth_for (by p) next
 substituted_test by (form.Equals a b) = form.Atomic (form.Equals (substituted_number by a) (substituted_number by b))
 substituted_test by (form.AtMost a b) = form.Atomic (form.AtMost (substituted_number by a) (substituted_number by b))
-substituted_test by (form.SameName a b) = form.Atomic (form.SameName (substituted_choice by a) (substituted_choice by b))
+substituted_test by (form.SameName a b) = form.Atomic (form.SameName (substituted_choice by a) (substituted_choice by
+    b))
 
 abbrev pub substituted : (ℕ → Reading) → Ltl → Ltl
 substituted by form.True = form.True

@@ -1,7 +1,10 @@
+//! What drives each port that a refinement speaks of: its first connection, or nothing. `port_drivers` notes all connections in one
+//! table of cells.
+
 ghost use Rattle.std.specs.Prelude.{◌≡◌, ◌+◌, map, length, IfOk};
 ghost use Rattle.architecture.specs.Architecture.{free_targets};
 ghost use Rattle.connections.specs.Drivers.{driver_rows};
-ghost use Rattle.connections.specs.Tables.{port_counts, blank, row_of as row_number, noted, noted_rows, noted_wires, vacant, vacant_rows, numbered, numbered_rows};
+ghost use Rattle.connections.specs.Tables.{port_counts, blank, row_of as row_number, row_with_wire, rows_with_wire, rows_with_wires, vacant, vacant_rows, drivers_of_row, drivers_of_rows};
 
 use architecture::{Spec, Target, Wire};
 use oss_base::ComponentId;
@@ -74,7 +77,7 @@ fn row_of(target: &Target) -> usize
 
 #[tactic(auto, using(crate::proofs::Rows::noted_vacant, crate::proofs::Rows::noted_taken, crate::proofs::Rows::noted_past))]
 fn note(row: &mut Items<Option<usize>>, port: usize, wire: usize)
-    ensures { row.new ≡ noted row.old port wire }
+    ensures { row.new ≡ row_with_wire row.old port wire }
 {
     match row.get(port) {
         Some(None) => row.set(port, Some(wire)),
@@ -84,7 +87,7 @@ fn note(row: &mut Items<Option<usize>>, port: usize, wire: usize)
 
 #[tactic(auto, using(crate::proofs::Rows::noted_rows_within, crate::proofs::Rows::noted_rows_past))]
 fn note_in(rows: &mut Vec<Items<Option<usize>>>, row: usize, port: usize, wire: usize)
-    ensures { rows.new.items ≡ noted_rows rows.old.items row port wire }
+    ensures { rows.new.items ≡ rows_with_wire rows.old.items row port wire }
 {
     if row < rows.len() {
         note(&mut rows[row], port, wire);
@@ -93,7 +96,7 @@ fn note_in(rows: &mut Vec<Items<Option<usize>>>, row: usize, port: usize, wire: 
 
 #[tactic(auto, using(crate::proofs::Rows::noted_wires_push))]
 fn note_wires(rows: &mut Vec<Items<Option<usize>>>, wires: &[Wire])
-    ensures { rows.new.items ≡ noted_wires rows.old.items 0 wires.now }
+    ensures { rows.new.items ≡ rows_with_wires rows.old.items 0 wires.now }
 {
     for (i, wire) in wires.iter().enumerate() {
         note_in(rows, row_of(&wire.target), wire.target.port.0 as usize, i);
@@ -107,7 +110,7 @@ fn number_row(
     row: &[Option<usize>],
     first: usize,
 ) -> Result<(Items<Driver>, usize), NoMemory>
-    ensures drivers { IfOk result (λ r. r.0 ≡ numbered first row.now) }
+    ensures drivers { IfOk result (λ r. r.0 ≡ drivers_of_row first row.now) }
     ensures next { IfOk result (λ r. r.1 ≡ first + vacant row.now) }
 {
     let mut drivers = Vec::new(alloc);
@@ -129,7 +132,7 @@ fn number_rows(
     alloc: Global,
     rows: &[Items<Option<usize>>],
 ) -> Result<(Vec<Items<Driver>>, usize), NoMemory>
-    ensures drivers { IfOk result (λ r. r.0.items ≡ numbered_rows 0 rows.now) }
+    ensures drivers { IfOk result (λ r. r.0.items ≡ drivers_of_rows 0 rows.now) }
     ensures next { IfOk result (λ r. r.1 ≡ vacant_rows rows.now) }
 {
     let mut numbered = Vec::new(alloc);

@@ -1,3 +1,5 @@
+//! Laws about substitution, for callers that cite them. None of these functions has code.
+
 ghost use Rattle.connections.specs.Laws.{StateTruthDecides, SubstitutionKeepsTruth};
 
 /// The truth of a state formula at a position is decided by the valuation there.

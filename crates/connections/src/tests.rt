@@ -1,3 +1,5 @@
+//! One refinement whose connections were followed by hand.
+
 use crate::{Driver, port_drivers};
 use architecture::{
     Component, Components, Contracts, Items, OwnPort, OwnPorts, PortUses, Source, Spec, Sub, Subs,

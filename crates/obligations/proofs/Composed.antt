@@ -228,7 +228,7 @@ assumptions spec w k pre up x (s ∷ p) b e r =
     (rw (by.component, by.contract) above) s b e (rw by.component r.3) r.4.2 r.4.3
 
 pub contracts_compose : TruthIsStable → SubstitutionKeepsTruth → ContractsCompose
-contracts_compose stable keeps spec k w well trace valid leaves x =
+contracts_compose stable keeps spec k well valid w trace leaves x =
     let pre : Premises spec w k = record { system = record { well = well; trace = trace; keeps = keeps; stable = stable }; valid = valid; leaves = leaves } in
     let up = λ (p : Path) (c : ComponentId) (d : ContractId) (r : IsReached spec k p c d). normal_forms spec w k pre well.acyclic.0 well.acyclic.1 (suc (well.acyclic.0 c.0)) p c d r (omega arith) in
     record {

@@ -11,10 +11,10 @@ use Rattle.port_types.specs.declared.types.PortType.{PortType}
 use Rattle.port_types.specs.declared.types.PortType.TheVariants as kind
 use Rattle.port_types.specs.declared.types.Value.{Value}
 use Rattle.port_types.specs.declared.types.Value.TheVariants as value
-use Rattle.typed_ltl.specs.Formulas.{Test, Ltl, meaning}
+use Rattle.typed_ltl.specs.Formulas.{Proposition, Ltl, meaning}
 use Rattle.typed_ltl.specs.Formulas as form
-use Rattle.typed_ltl.specs.Traces.{Assignment, Trace, place, word}
-use Rattle.typed_ltl.specs.Truth.{as_truth, test, Holds}
+use Rattle.typed_ltl.specs.Traces.{Assignment, Trace, lasso_place, word}
+use Rattle.typed_ltl.specs.Truth.{as_truth, proposition_truth, Holds}
 use Rattle.architecture.specs.declared.spec.Spec.{Spec}
 use Rattle.architecture.specs.declared.port.OwnPort.{OwnPort}
 use Rattle.architecture.specs.declared.contract.Contract.{Contract}
@@ -27,10 +27,10 @@ use Rattle.connections.specs.Drivers.{driver_rows}
 use Rattle.connections.specs.Substitution.{readings, state_truth, substituted}
 use Rattle.connections.specs.Laws.{StateTruthDecides}
 use Rattle.obligations.specs.declared.table.Truths.{Truths}
-use Rattle.obligations.specs.declared.table.Row.{Row}
+use Rattle.obligations.specs.declared.table.TableLine.{TableLine}
 use Rattle.obligations.specs.Levels.{Part, Question, assumption, guarantee, part_assumption, part_guarantee, level_assumption, level_guarantee, listed_assumption, listed_normal_form, entails, assumes, is_of_another_sub, Meets, MeetsAll, IsFreeTrace}
-use Rattle.obligations.specs.Valuations.{boolean, boolean_values, valuations, breaks, first_breaking, truth}
-use Rattle.obligations.specs.Tables.{meets, others_meet, assume_at, breaks_entails, breaks_assumes, part_truths, row_at}
+use Rattle.obligations.specs.Valuations.{boolean, boolean_values, valuations, breaks, first_breaking, boolean_truth}
+use Rattle.obligations.specs.Tables.{meets, others_meet, assume_at, breaks_entails, breaks_assumes, part_truths, table_line}
 use Rattle.typed_ltl.specs.declared.lasso.Verdict.{Verdict}
 use Rattle.obligations.specs.Verdicts.{OnePositionDecides, LevelsAreDecided, IsVerdict, AreAssumesVerdicts}
 use Rattle.obligations.proofs.Among.{Among, among_append_left, among_append_right, among_map, below_length}
@@ -61,12 +61,12 @@ part_option spec (Some b) f h l = (h b, l b)
 -- the truth values of the table are those of the level's formulas
 
 own_truth : (spec : Spec) → IsPropositionalSpec spec → (c : ComponentId) (free : List Bool) (f : Ltl) → IsPropositional f → ReadsBelow (length (ports_of spec c)) f
-    → truth (get_or (table_values spec c free) 0 []) f ≡ state_truth (boolean free) (substituted (readings spec c None) f)
+    → boolean_truth (get_or (table_values spec c free) 0 []) f ≡ state_truth (boolean free) (substituted (readings spec c None) f)
 own_truth spec ok c free f h l =
     substituted_truth (length (ports_of spec c)) (readings spec c None) free (get_or (table_values spec c free) 0 []) (own_gives spec c free (ok.wires c)) f h l
 
 sub_truth : (spec : Spec) → IsPropositionalSpec spec → (c : ComponentId) (free : List Bool) (s : SubId) (f : Ltl) → IsPropositional f → ReadsBelow (length (ports_at spec c (Some s))) f
-    → truth (get_or (table_values spec c free) (s.0 + 1) []) f ≡ state_truth (boolean free) (substituted (readings spec c (Some s)) f)
+    → boolean_truth (get_or (table_values spec c free) (s.0 + 1) []) f ≡ state_truth (boolean free) (substituted (readings spec c (Some s)) f)
 sub_truth spec ok c free s f h l =
     substituted_truth (length (ports_at spec c (Some s))) (readings spec c (Some s)) free (get_or (table_values spec c free) (s.0 + 1) []) (sub_gives spec c free (ok.wires c) s) f h l
 
@@ -98,13 +98,13 @@ part_assume spec ok item free part =
     sub_truth spec ok item.component free part.0 (part_assumption spec item.component part) a.0 a.1
 
 level_assume : (spec : Spec) → IsPropositionalSpec spec → (item : Item) (free : List Bool)
-    → truth (get_or (table_values spec item.component free) 0 []) (assumption spec item.component item.contract) ≡ state_truth (boolean free) (level_assumption spec item)
+    → boolean_truth (get_or (table_values spec item.component free) 0 []) (assumption spec item.component item.contract) ≡ state_truth (boolean free) (level_assumption spec item)
 level_assume spec ok item free =
     own_truth spec ok item.component free (assumption spec item.component item.contract)
     (assumption_propositional spec ok item.component item.contract) (assumption_reads spec ok.well item.component item.contract)
 
 level_guaranteed : (spec : Spec) → IsPropositionalSpec spec → (item : Item) (free : List Bool)
-    → truth (get_or (table_values spec item.component free) 0 []) (guarantee spec item.component item.contract) ≡ state_truth (boolean free) (level_guarantee spec item)
+    → boolean_truth (get_or (table_values spec item.component free) 0 []) (guarantee spec item.component item.contract) ≡ state_truth (boolean free) (level_guarantee spec item)
 level_guaranteed spec ok item free =
     own_truth spec ok item.component free (guarantee spec item.component item.contract)
     (guarantee_propositional spec ok item.component item.contract) (guarantee_reads spec ok.well item.component item.contract)
@@ -127,7 +127,7 @@ all_parts spec ok item free [] = refl
 all_parts spec ok item free (part ∷ parts) = and_same _ _ _ _ (part_meets spec ok item free part) (all_parts spec ok item free parts)
 
 pub entails_line : (spec : Spec) → IsPropositionalSpec spec → (item : Item) (free : List Bool)
-    → breaks_entails (row_at spec item (driver_rows spec item.component) free) ≡ breaks free (entails spec item)
+    → breaks_entails (table_line spec item (driver_rows spec item.component) free) ≡ breaks free (entails spec item)
 entails_line spec ok item free =
     let l = breaks-append free (map (λ (part : Part). (listed_normal_form spec item part, true)) item.parts)
     ((level_assumption spec item, true) ∷ ((level_guarantee spec item, false) ∷ [])) in
@@ -155,7 +155,7 @@ assume_at_map f (p ∷ parts) zero part e = let same : p ≡ part = cc in ap (λ
 assume_at_map f (p ∷ parts) (suc n) part e = assume_at_map f parts n part e
 
 pub assumes_line : (spec : Spec) → IsPropositionalSpec spec → (item : Item) (free : List Bool) (n : ℕ) (part : Part) → slice_get item.parts n ≡ Some part
-    → breaks_assumes item.parts n part (row_at spec item (driver_rows spec item.component) free) ≡ breaks free (assumes spec item part)
+    → breaks_assumes item.parts n part (table_line spec item (driver_rows spec item.component) free) ≡ breaks free (assumes spec item part)
 assumes_line spec ok item free n part e =
     let f = assume_at_map (part_truths spec item.component (table_values spec item.component free)) item.parts n part e in
     let l = breaks-append free (map (λ (p : Part). (listed_normal_form spec item p, true)) (filter (is_of_another_sub part) item.parts))
@@ -165,16 +165,16 @@ assumes_line spec ok item free n part e =
 
 -- a search in the table is a search among the valuations
 
-find_line_step : (b : Bool) (r : Row) (x : List Bool) (o : Option Row) (q : Option (List Bool)) → r.free ≡ x → option_map (λ (row : Row). row.free) o ≡ q
-    → option_map (λ (row : Row). row.free) (cond b (Some r) o) ≡ cond b (Some x) q
+find_line_step : (b : Bool) (r : TableLine) (x : List Bool) (o : Option TableLine) (q : Option (List Bool)) → r.free ≡ x → option_map (λ (row : TableLine). row.free) o ≡ q
+    → option_map (λ (row : TableLine). row.free) (cond b (Some r) o) ≡ cond b (Some x) q
 find_line_step true r x o q e f = ap Some e
 find_line_step false r x o q e f = f
 
-pub find_line : (p : Row → Bool) (test : List Bool → Bool) (line : List Bool → Row) → ((bs : List Bool) → p (line bs) ≡ test bs) → ((bs : List Bool) → (line bs).free ≡ bs)
-    → (xs : List (List Bool)) → option_map (λ (row : Row). row.free) (find p (map line xs)) ≡ find test xs
+pub find_line : (p : TableLine → Bool) (test : List Bool → Bool) (line : List Bool → TableLine) → ((bs : List Bool) → p (line bs) ≡ test bs) → ((bs : List Bool) → (line bs).free ≡ bs)
+    → (xs : List (List Bool)) → option_map (λ (row : TableLine). row.free) (find p (map line xs)) ≡ find test xs
 find_line p test line agree keeps [] = refl
 find_line p test line agree keeps (x ∷ xs) =
-    ap (λ (b : Bool). option_map (λ (row : Row). row.free) (cond b (Some (line x)) (find p (map line xs)))) (agree x)
+    ap (λ (b : Bool). option_map (λ (row : TableLine). row.free) (cond b (Some (line x)) (find p (map line xs)))) (agree x)
     ∙ find_line_step (test x) (line x) x _ _ (keeps x) (find_line p test line agree keeps xs)
 
 -- all valuations are searched
@@ -380,7 +380,7 @@ target_fits spec ok c (Some t) v b e = port_fits (port_at spec c t) v b (λ port
 
 typed_lasso : (spec : Spec) → IsPropositionalSpec spec → (c : ComponentId) (bs : List Bool) → IsFreeTrace spec c (word (boolean_values bs ∷ []) 0)
 typed_lasso spec ok c bs i k =
-    let v = state_boolean bs (place 1 0 i) k in
+    let v = state_boolean bs (lasso_place 1 0 i) k in
     target_fits spec ok c (slice_get (free_targets spec c) k) (word (boolean_values bs ∷ []) 0 i k) v.0 v.1
 
 decides : StateTruthDecides → (spec : Spec) → IsPropositionalSpec spec → (item : Item) (q : Question)
@@ -423,28 +423,28 @@ pub open_verdict : (o q : Option (List Bool)) (v : Verdict) → o ≡ q → IsVe
 open_verdict o q v e h = rw (← e) h
 
 -- the verdict of the entails question
-pub entails_verdict : (spec : Spec) → IsPropositionalSpec spec → (item : Item) (n : ℕ) (table : List Row) (v : Verdict)
+pub entails_verdict : (spec : Spec) → IsPropositionalSpec spec → (item : Item) (n : ℕ) (table : List TableLine) (v : Verdict)
     → n ≡ length (free_targets spec item.component)
-    → table ≡ map (row_at spec item (driver_rows spec item.component)) (valuations n)
-    → IsVerdict (option_map (λ (row : Row). row.free) (find breaks_entails table)) v
+    → table ≡ map (table_line spec item (driver_rows spec item.component)) (valuations n)
+    → IsVerdict (option_map (λ (row : TableLine). row.free) (find breaks_entails table)) v
     → IsVerdict (first_breaking (length (free_targets spec item.component)) (entails spec item)) v
 entails_verdict spec ok item n table v e f h =
-    let g = find_line breaks_entails (λ (bs : List Bool). breaks bs (entails spec item)) (row_at spec item (driver_rows spec item.component))
+    let g = find_line breaks_entails (λ (bs : List Bool). breaks bs (entails spec item)) (table_line spec item (driver_rows spec item.component))
     (entails_line spec ok item) (λ bs. refl) (valuations n) in
-    open_verdict _ _ v (ap (λ (t : List Row). option_map (λ (row : Row). row.free) (find breaks_entails t)) f
+    open_verdict _ _ v (ap (λ (t : List TableLine). option_map (λ (row : TableLine). row.free) (find breaks_entails t)) f
     ∙ g ∙ ap (λ (m : ℕ). first_breaking m (entails spec item)) e) h
 
 -- the verdict of an assumes question
-pub assumes_verdict : (spec : Spec) → IsPropositionalSpec spec → (item : Item) (n : ℕ) (table : List Row) (v : Verdict)
+pub assumes_verdict : (spec : Spec) → IsPropositionalSpec spec → (item : Item) (n : ℕ) (table : List TableLine) (v : Verdict)
     → n ≡ length (free_targets spec item.component)
-    → table ≡ map (row_at spec item (driver_rows spec item.component)) (valuations n)
+    → table ≡ map (table_line spec item (driver_rows spec item.component)) (valuations n)
     → (place : ℕ) (part : Part) → slice_get item.parts place ≡ Some part
-    → IsVerdict (option_map (λ (row : Row). row.free) (find (breaks_assumes item.parts place part) table)) v
+    → IsVerdict (option_map (λ (row : TableLine). row.free) (find (breaks_assumes item.parts place part) table)) v
     → IsVerdict (first_breaking (length (free_targets spec item.component)) (assumes spec item part)) v
 assumes_verdict spec ok item n table v e f place part at h =
-    let g = find_line (breaks_assumes item.parts place part) (λ (bs : List Bool). breaks bs (assumes spec item part)) (row_at spec item (driver_rows spec item.component))
+    let g = find_line (breaks_assumes item.parts place part) (λ (bs : List Bool). breaks bs (assumes spec item part)) (table_line spec item (driver_rows spec item.component))
     (λ bs. assumes_line spec ok item bs place part at) (λ bs. refl) (valuations n) in
-    open_verdict _ _ v (ap (λ (t : List Row). option_map (λ (row : Row). row.free) (find (breaks_assumes item.parts place part) t)) f
+    open_verdict _ _ v (ap (λ (t : List TableLine). option_map (λ (row : TableLine). row.free) (find (breaks_assumes item.parts place part) t)) f
     ∙ g ∙ ap (λ (m : ℕ). first_breaking m (assumes spec item part)) e) h
 
 pub assumes_verdicts_push : (spec : Spec) (item : Item) (parts : List Part) (vs : List Verdict) (part : Part) (v : Verdict)

@@ -1,16 +1,16 @@
 use Rattle.std.proofs.Common.{◌≡◌, ℕ, zero, suc, ◌+◌, ◌-◌, ◌<◌, Bool, true, false, cond, List, [], ◌∷◌, ◌++◌, map, length, get_or, take, Option, Some, None, refl, sym, ap, ◌∙◌, append_assoc, arith}
 use Rattle.std.proofs.lemmas.List.{append-nil, take_more}
 use Rattle.std.specs.List.{find}
-use Rattle.obligations.specs.declared.table.Row.{Row}
+use Rattle.obligations.specs.declared.table.TableLine.{TableLine}
 use Rattle.obligations.specs.Valuations.{valuations}
 
 -- The lines of all valuations that begin with the same values.
 
 abbrev pub Line : Type 0
-Line = List Bool → Row
+Line = List Bool → TableLine
 
 -- the lines of the valuations that begin with the front
-abbrev pub lines_from : Line → List Bool → ℕ → List Row
+abbrev pub lines_from : Line → List Bool → ℕ → List TableLine
 lines_from f front n = map (λ (bs : List Bool). f (front ++ bs)) (valuations n)
 
 lines-append : (f : Line) (xs ys : List (List Bool)) → map f (xs ++ ys) ≡ map f xs ++ map f ys
@@ -35,24 +35,24 @@ lines_split f front (suc n) h =
     rw e (lines-append (λ (bs : List Bool). f (front ++ bs)) (map (λ (bs : List Bool). false ∷ bs) (valuations n)) (map (λ (bs : List Bool). true ∷ bs) (valuations n))
     ∙ cc (lines_of-cons f front false (valuations n), lines_of-cons f front true (valuations n)))
 
-pub lines_joined : (f : Line) (front : List Bool) (n : ℕ) (t0 t1 t2 : List Row) (b1 b2 : List Bool) → 0 < n → b1 ≡ front ++ false ∷ [] → b2 ≡ front ++ true ∷ []
+pub lines_joined : (f : Line) (front : List Bool) (n : ℕ) (t0 t1 t2 : List TableLine) (b1 b2 : List Bool) → 0 < n → b1 ≡ front ++ false ∷ [] → b2 ≡ front ++ true ∷ []
     → t1 ≡ t0 ++ lines_from f b1 (n - 1) → t2 ≡ t1 ++ lines_from f b2 (n - 1) → t2 ≡ t0 ++ lines_from f front n
 lines_joined f front n t0 t1 t2 b1 b2 h e1 e2 g1 g2 =
     g2 ∙ ap (λ (b : List Bool). t1 ++ lines_from f b (n - 1)) e2
-    ∙ ap (λ (t : List Row). t ++ lines_from f (front ++ true ∷ []) (n - 1)) (g1 ∙ ap (λ (b : List Bool). t0 ++ lines_from f b (n - 1)) e1)
+    ∙ ap (λ (t : List TableLine). t ++ lines_from f (front ++ true ∷ []) (n - 1)) (g1 ∙ ap (λ (b : List Bool). t0 ++ lines_from f b (n - 1)) e1)
     ∙ append_assoc t0 (lines_from f (front ++ false ∷ []) (n - 1)) (lines_from f (front ++ true ∷ []) (n - 1))
-    ∙ ap (λ (r : List Row). t0 ++ r) (sym (lines_split f front n h))
+    ∙ ap (λ (r : List TableLine). t0 ++ r) (sym (lines_split f front n h))
 
-pub lines_whole : (f : Line) (n : ℕ) (t0 t : List Row) (b : List Bool) → t0 ≡ [] → b ≡ [] → t ≡ t0 ++ lines_from f b n → t ≡ map f (valuations n)
-lines_whole f n t0 t b e g h = h ∙ ap (λ (r : List Row). r ++ lines_from f b n) e ∙ ap (λ (x : List Bool). lines_from f x n) g
+pub lines_whole : (f : Line) (n : ℕ) (t0 t : List TableLine) (b : List Bool) → t0 ≡ [] → b ≡ [] → t ≡ t0 ++ lines_from f b n → t ≡ map f (valuations n)
+lines_whole f n t0 t b e g h = h ∙ ap (λ (r : List TableLine). r ++ lines_from f b n) e ∙ ap (λ (x : List Bool). lines_from f x n) g
 
 -- the first line that passes
 
-passes_step : (b : Bool) (y : Row) (o : Option Row) → cond b (Some y) o ≡ None → (b ≡ false) × (o ≡ None)
+passes_step : (b : Bool) (y : TableLine) (o : Option TableLine) → cond b (Some y) o ≡ None → (b ≡ false) × (o ≡ None)
 passes_step true y o e = cc
 passes_step false y o e = (refl, e)
 
-pub found_here : (p : Row → Bool) (xs : List Row) (i : ℕ) (x : Row) → i < length xs → x ≡ get_or xs i x → find p (take i xs) ≡ None → p x ≡ true → find p xs ≡ Some x
+pub found_here : (p : TableLine → Bool) (xs : List TableLine) (i : ℕ) (x : TableLine) → i < length xs → x ≡ get_or xs i x → find p (take i xs) ≡ None → p x ≡ true → find p xs ≡ Some x
 found_here p [] i x h e n t = absurd (omega arith)
 found_here p (y ∷ ys) zero x h e n t =
     let s : p y ≡ true = ap p (sym e) ∙ t in
@@ -61,15 +61,15 @@ found_here p (y ∷ ys) (suc i) x h e n t =
     let s = passes_step (p y) y (find p (take i ys)) n in
     rw s.0 (found_here p ys i x (omega arith) e s.1 t)
 
-none_step : (p : Row → Bool) (x : Row) (b : Bool) (z : Row) (zs : List Row) → (find p zs ≡ None → find p (zs ++ x ∷ []) ≡ None)
+none_step : (p : TableLine → Bool) (x : TableLine) (b : Bool) (z : TableLine) (zs : List TableLine) → (find p zs ≡ None → find p (zs ++ x ∷ []) ≡ None)
     → cond b (Some z) (find p zs) ≡ None → cond b (Some z) (find p (zs ++ x ∷ [])) ≡ None
 none_step p x true z zs k f = cc
 none_step p x false z zs k f = k f
 
-none_push : (p : Row → Bool) (x : Row) → p x ≡ false → (zs : List Row) → find p zs ≡ None → find p (zs ++ x ∷ []) ≡ None
+none_push : (p : TableLine → Bool) (x : TableLine) → p x ≡ false → (zs : List TableLine) → find p zs ≡ None → find p (zs ++ x ∷ []) ≡ None
 none_push p x t [] m = rw t refl
 none_push p x t (z ∷ zs) m = none_step p x (p z) z zs (none_push p x t zs) m
 
-pub none_more : (p : Row → Bool) (xs : List Row) (i : ℕ) (x : Row) → i < length xs → x ≡ get_or xs i x → find p (take i xs) ≡ None → p x ≡ false → find p (take (i + 1) xs) ≡ None
+pub none_more : (p : TableLine → Bool) (xs : List TableLine) (i : ℕ) (x : TableLine) → i < length xs → x ≡ get_or xs i x → find p (take i xs) ≡ None → p x ≡ false → find p (take (i + 1) xs) ≡ None
 none_more p xs i x h e n t =
-    ap (find p) (take_more xs i x h ∙ ap (λ (y : Row). take i xs ++ y ∷ []) (sym e)) ∙ none_push p x t (take i xs) n
+    ap (find p) (take_more xs i x h ∙ ap (λ (y : TableLine). take i xs ++ y ∷ []) (sym e)) ∙ none_push p x t (take i xs) n

@@ -47,8 +47,8 @@ level_valid decided spec ok item (verdict.Refuted lasso ∷ vs) h p = absurd p
 
 pub proved_systems_are_safe : LevelsAreDecided → ContractsCompose → ProvedSystemsAreSafe
 proved_systems_are_safe decided compose spec ok proved k w trace leaves x =
-    compose spec k w ok.well trace
+    compose spec k ok.well
     (λ p c d r item by.
     (let v = proved by.stands.0 item by.stands.1 in
     level_valid decided spec ok item v.0 v.1 v.2))
-    leaves x
+    w trace leaves x

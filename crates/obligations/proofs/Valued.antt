@@ -4,10 +4,10 @@ use Rattle.std.specs.List.{range_with_len, find}
 use Rattle.std.specs.Option.{option_map_or}
 use Rattle.oss_base.specs.declared.ids.ComponentId.{ComponentId}
 use Rattle.oss_base.specs.declared.ids.SubId.{SubId}
-use Rattle.typed_ltl.specs.Formulas.{Test, Ltl, meaning}
+use Rattle.typed_ltl.specs.Formulas.{Proposition, Ltl, meaning}
 use Rattle.typed_ltl.specs.Formulas as form
 use Rattle.typed_ltl.specs.Traces.{Assignment}
-use Rattle.typed_ltl.specs.Truth.{as_truth, test}
+use Rattle.typed_ltl.specs.Truth.{as_truth, proposition_truth}
 use Rattle.architecture.specs.declared.spec.Spec.{Spec}
 use Rattle.architecture.specs.declared.sub.Sub.{Sub}
 use Rattle.architecture.specs.declared.wire.Wire.{Wire}
@@ -20,7 +20,7 @@ use Rattle.connections.specs.declared.driving.Driver.TheVariants as driver
 use Rattle.connections.specs.Drivers.{first_wire, driver_of, port_rows, driver_rows}
 use Rattle.connections.specs.Substitution.{Reading, reading, source_reading, readings, reading_value, state_truth, truth_for, substituted, substituted_test}
 use Rattle.connections.specs.Substitution as by
-use Rattle.obligations.specs.Valuations.{boolean, test_truth, truth}
+use Rattle.obligations.specs.Valuations.{boolean, test_truth, boolean_truth}
 use Rattle.obligations.specs.Tables.{source_truth, driver_truth, wire_truths, port_truths}
 use Rattle.obligations.proofs.Locals.{at_free_place}
 use Rattle.obligations.proofs.Among.{below_length}
@@ -32,14 +32,14 @@ as_truth-boolean [] p = refl
 as_truth-boolean (b ∷ bs) zero = refl
 as_truth-boolean (b ∷ bs) (suc p) = as_truth-boolean bs p
 
-pub test_truth_is : (bs : List Bool) (a : Test) → IsPropositional (form.Atomic a) → test_truth bs a ≡ test (boolean bs) (boolean bs) a
+pub test_truth_is : (bs : List Bool) (a : Proposition) → IsPropositional (form.Atomic a) → test_truth bs a ≡ proposition_truth (boolean bs) (boolean bs) a
 test_truth_is bs (form.TruthAt p true) h = cc
 test_truth_is bs (form.TruthAt p false) h = sym (as_truth-boolean bs p)
 test_truth_is bs (form.Equals a b) h = absurd h
 test_truth_is bs (form.AtMost a b) h = absurd h
 test_truth_is bs (form.SameName a b) h = absurd h
 
-pub truth_is : (bs : List Bool) (f : Ltl) → IsPropositional f → truth bs f ≡ state_truth (boolean bs) f
+pub truth_is : (bs : List Bool) (f : Ltl) → IsPropositional f → boolean_truth bs f ≡ state_truth (boolean bs) f
 truth_is bs form.True h = refl
 truth_is bs form.False h = refl
 truth_is bs (form.Atomic a) h = test_truth_is bs a h
@@ -86,7 +86,7 @@ abbrev pub Gives : ℕ → (ℕ → Reading) → List Bool → List Bool → Typ
 Gives n readings free values = (k : ℕ) → k < n → get_or values k false ≡ as_truth (reading_value (boolean free) (readings k))
 
 pub substituted_truth : (n : ℕ) (rs : ℕ → Reading) (free values : List Bool) → Gives n rs free values → (f : Ltl) → IsPropositional f → ReadsBelow n f
-    → truth values f ≡ state_truth (boolean free) (substituted rs f)
+    → boolean_truth values f ≡ state_truth (boolean free) (substituted rs f)
 substituted_truth n rs free values g form.True h l = refl
 substituted_truth n rs free values g form.False h l = refl
 substituted_truth n rs free values g (form.Atomic (form.TruthAt p true)) h l = cc

@@ -1,18 +1,19 @@
-use Rattle.std.specs.Prelude.{◌≡◌, ℕ, [], Some, slice_get}
+-- Composition: what valid levels say of every trace of the whole system (Cimatti and Tonetta, Contracts-refinement proof system for
+-- component-based embedded systems, 2015).
+use Rattle.std.specs.Prelude.{◌≡◌, ℕ, Some, slice_get}
 use Rattle.oss_base.specs.declared.ids.ComponentId.{ComponentId}
 use Rattle.oss_base.specs.declared.ids.ContractId.{ContractId}
-use Rattle.typed_ltl.specs.Traces.{Trace}
-use Rattle.typed_ltl.specs.Truth.{Holds}
 use Rattle.architecture.specs.declared.spec.Spec.{Spec}
 use Rattle.architecture.specs.declared.item.Item.{Item}
 use Rattle.architecture.specs.Architecture.{IsWellFormed}
-use Rattle.obligations.specs.Levels.{Part, IsValid, entails, assumes, assumption}
-use Rattle.obligations.specs.Systems.{Path, IsSystemTrace, IsRefinedBy, IsReached, LeavesMeet, IsSystemSafe}
+use Rattle.obligations.specs.Levels.{Part, IsValid, entails, assumes}
+use Rattle.obligations.specs.Systems.{Path, IsRefinedBy, IsReached, IsSafeFor}
 
 -- every question of a level is valid
 pub record IsValidLevel (spec : Spec) (item : Item) : Type 0 where
   pub entailed : IsValid spec item.component (entails spec item)
-  pub assumed : (n : ℕ) (part : Part) → slice_get item.parts n ≡ Some part → IsValid spec item.component (assumes spec item part)
+  pub assumed : (n : ℕ) (part : Part) → slice_get item.parts n ≡ Some part
+      → IsValid spec item.component (assumes spec item part)
 
 -- every question of the levels of reached contracts is valid
 abbrev pub ReachedLevelsAreValid : Spec → ContractId → Type 0
@@ -23,5 +24,4 @@ ReachedLevelsAreValid spec k = (p : Path) (c : ComponentId) (d : ContractId) →
 -- valid, each system trace whose unrefined reached contracts hold, and whose environment meets the
 -- assumption of the system's contract, meets its guarantee and every reached assumption.
 abbrev pub ContractsCompose : Type 0
-ContractsCompose = (spec : Spec) (k : ContractId) (w : Path → Trace) → IsWellFormed spec → IsSystemTrace spec w
-    → ReachedLevelsAreValid spec k → LeavesMeet spec w k → Holds (w []) (assumption spec spec.system k) 0 → IsSystemSafe spec w k
+ContractsCompose = (spec : Spec) (k : ContractId) → IsWellFormed spec → ReachedLevelsAreValid spec k → IsSafeFor spec k

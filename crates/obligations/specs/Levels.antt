@@ -1,3 +1,7 @@
+-- Levels and their questions (Cimatti and Tonetta, Contracts-refinement proof system for
+-- component-based embedded systems, 2015: the proof obligations of a contract refinement). A level is
+-- one contract that is refined by contracts of subcomponents; its formulas speak of the free ports of
+-- the refined component.
 use Rattle.std.specs.Prelude.{ℕ, Bool, true, false, not, List, [], ◌∷◌, ◌++◌, map, filter, Some, None, IfSome, nat_eq, slice_get}
 use Rattle.std.specs.Option.{option_map_or}
 use Rattle.oss_base.specs.declared.ids.ComponentId.{ComponentId}
@@ -16,17 +20,13 @@ use Rattle.port_types.specs.Types.{IsOfType}
 use Rattle.architecture.specs.Architecture.{contracts_of, sub_component, port_at, free_targets}
 use Rattle.connections.specs.Substitution.{readings, substituted}
 
--- Levels and their questions (Cimatti and Tonetta, Contracts-refinement proof system for
--- component-based embedded systems, 2015: the proof obligations of a contract refinement). A level is
--- one contract that is refined by contracts of subcomponents; its formulas speak of the free ports of
--- the refined component.
-
 -- A contract of a component. One that does not exist asks and gives nothing.
 abbrev pub assumption : Spec → ComponentId → ContractId → Ltl
 assumption spec c d = option_map_or (λ (k : Contract). meaning k.assume) (slice_get (contracts_of spec c) d.0) form.True
 
 abbrev pub guarantee : Spec → ComponentId → ContractId → Ltl
-guarantee spec c d = option_map_or (λ (k : Contract). meaning k.guarantee) (slice_get (contracts_of spec c) d.0) form.True
+guarantee spec c d = option_map_or (λ (k : Contract). meaning k.guarantee) (slice_get (contracts_of spec c) d.0)
+    form.True
 
 -- The normal form of a contract: what an implementation meets.
 abbrev pub normal_form : Ltl → Ltl → Ltl
@@ -37,24 +37,30 @@ abbrev pub Part : Type 0
 Part = SubId × ContractId
 
 abbrev pub part_assumption : Spec → ComponentId → Part → Ltl
-part_assumption spec c part = option_map_or (λ (b : ComponentId). assumption spec b part.1) (sub_component spec c part.0) form.True
+part_assumption spec c part = option_map_or (λ (b : ComponentId). assumption spec b part.1) (sub_component spec c
+    part.0) form.True
 
 abbrev pub part_guarantee : Spec → ComponentId → Part → Ltl
-part_guarantee spec c part = option_map_or (λ (b : ComponentId). guarantee spec b part.1) (sub_component spec c part.0) form.True
+part_guarantee spec c part = option_map_or (λ (b : ComponentId). guarantee spec b part.1) (sub_component spec c part.0)
+    form.True
 
 -- The formulas of a level, over the free ports of its component: those of the refined contract, and
 -- those of a listed one.
 abbrev pub level_assumption : Spec → Item → Ltl
-level_assumption spec item = substituted (readings spec item.component None) (assumption spec item.component item.contract)
+level_assumption spec item = substituted (readings spec item.component None) (assumption spec item.component
+    item.contract)
 
 abbrev pub level_guarantee : Spec → Item → Ltl
-level_guarantee spec item = substituted (readings spec item.component None) (guarantee spec item.component item.contract)
+level_guarantee spec item = substituted (readings spec item.component None) (guarantee spec item.component
+    item.contract)
 
 abbrev pub listed_assumption : Spec → Item → Part → Ltl
-listed_assumption spec item part = substituted (readings spec item.component (Some part.0)) (part_assumption spec item.component part)
+listed_assumption spec item part = substituted (readings spec item.component (Some part.0)) (part_assumption spec
+    item.component part)
 
 abbrev pub listed_guarantee : Spec → Item → Part → Ltl
-listed_guarantee spec item part = substituted (readings spec item.component (Some part.0)) (part_guarantee spec item.component part)
+listed_guarantee spec item part = substituted (readings spec item.component (Some part.0)) (part_guarantee spec
+    item.component part)
 
 abbrev pub listed_normal_form : Spec → Item → Part → Ltl
 listed_normal_form spec item part = normal_form (listed_assumption spec item part) (listed_guarantee spec item part)

@@ -1,3 +1,4 @@
+-- How obligations are named: `C.c entails` and `C.c assumes s.d`. What does not exist has the empty name.
 use Rattle.std.specs.Prelude.{ℕ, List, [], ◌++◌, slice_get, codes}
 use Rattle.std.specs.Option.{option_map_or}
 use Rattle.oss_base.specs.declared.ids.ComponentId.{ComponentId}
@@ -13,8 +14,6 @@ use Rattle.obligations.specs.declared.name.ObligationName.{ObligationName}
 use Rattle.obligations.specs.declared.name.ObligationName.TheVariants as obligation
 use Rattle.obligations.specs.Levels.{Part}
 
--- How obligations are named: `C.c entails` and `C.c assumes s.d`. What does not exist has the empty name.
-
 abbrev pub component_name : Spec → ComponentId → List ℕ
 component_name spec c = option_map_or (λ (k : Component). k.name) (slice_get spec.components c.0) []
 
@@ -29,7 +28,8 @@ part_name spec c part = (sub_name spec c part.0 ++ codes ".")
     ++ option_map_or (λ (b : ComponentId). contract_name spec b part.1) (sub_component spec c part.0) []
 
 abbrev pub level_name : Spec → Item → List ℕ
-level_name spec item = (component_name spec item.component ++ codes ".") ++ contract_name spec item.component item.contract
+level_name spec item = (component_name spec item.component ++ codes ".")
+    ++ contract_name spec item.component item.contract
 
 abbrev pub obligation_text : Spec → ObligationName → List ℕ
 obligation_text spec (obligation.Entails item) =

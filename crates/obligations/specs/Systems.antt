@@ -1,3 +1,5 @@
+-- Instances, and traces of the whole system. All components and connections step together: a system
+-- trace gives every instance a valuation at every position.
 use Rattle.std.specs.Prelude.{◌≡◌, ℕ, false, List, [], ◌∷◌, Option, Some, None, slice_get}
 use Rattle.std.specs.Option.{option_map_or}
 use Rattle.oss_base.specs.declared.ids.ComponentId.{ComponentId}
@@ -16,9 +18,6 @@ use Rattle.architecture.specs.Architecture.{ports_of, wires_of, sub_component, f
 use Rattle.connections.specs.Substitution.{reading_value, source_reading}
 use Rattle.obligations.specs.Levels.{assumption, guarantee, normal_form}
 
--- Instances, and traces of the whole system. All components and connections step together: a system
--- trace gives every instance a valuation at every position.
-
 -- An instance: the subcomponents on the way to it from the system, the last one first.
 abbrev pub Path : Type 0
 Path = List SubId
@@ -35,15 +34,19 @@ inner p (Some s) = s ∷ p
 
 -- The trace of the free ports of an instance's component, as the system trace gives them.
 abbrev pub around : Spec → (Path → Trace) → Path → ComponentId → Trace
-around spec w p c i k = option_map_or (λ (t : Target). w (inner p t.sub) i t.port.0) (slice_get (free_targets spec c) k) (value.Bool false)
+around spec w p c i k = option_map_or (λ (t : Target). w (inner p t.sub) i t.port.0) (slice_get (free_targets spec c) k)
+    (value.Bool false)
 
 -- A system trace: at each position each port of each instance has a value of its type, and the target
 -- of every connection has the value of its expression.
 pub record IsSystemTrace (spec : Spec) (w : Path → Trace) : Type 0 where
-  pub typed : (p : Path) (c : ComponentId) → IsInstance spec p c → (i k : ℕ) (port : OwnPort) → slice_get (ports_of spec c) k ≡ Some port
+  pub typed : (p : Path) (c : ComponentId) → IsInstance spec p c → (i k : ℕ) (port : OwnPort)
+      → slice_get (ports_of spec c) k ≡ Some port
       → IsOfType port.kind (w p i k)
-  pub connected : (p : Path) (c : ComponentId) → IsInstance spec p c → (i n : ℕ) (wire : Wire) → slice_get (wires_of spec c) n ≡ Some wire
-      → w (inner p wire.target.sub) i wire.target.port.0 ≡ reading_value (around spec w p c i) (source_reading wire.source)
+  pub connected : (p : Path) (c : ComponentId) → IsInstance spec p c → (i n : ℕ) (wire : Wire)
+      → slice_get (wires_of spec c) n ≡ Some wire
+      → w (inner p wire.target.sub) i wire.target.port.0
+      ≡ reading_value (around spec w p c i) (source_reading wire.source)
 
 -- the item refines this contract of this component
 pub record IsRefinedBy (spec : Spec) (c : ComponentId) (d : ContractId) (item : Item) : Type 0 where
@@ -62,7 +65,8 @@ IsListed spec c d s e = (item : Item) × IsRefinedBy spec c d item × (n : ℕ) 
 -- is reached one subcomponent further up.
 abbrev pub IsReached : Spec → ContractId → Path → ComponentId → ContractId → Type 0
 IsReached spec k [] c d = (c ≡ spec.system) × (d ≡ k)
-IsReached spec k (s ∷ p) b e = (c : ComponentId) × (d : ContractId) × IsReached spec k p c d × (sub_component spec c s ≡ Some b) × IsListed spec c d s e
+IsReached spec k (s ∷ p) b e = (c : ComponentId) × (d : ContractId) × IsReached spec k p c d
+    × (sub_component spec c s ≡ Some b) × IsListed spec c d s e
 
 -- Every reached contract that is not refined has its normal form at position 0.
 abbrev pub LeavesMeet : Spec → (Path → Trace) → ContractId → Type 0
@@ -72,4 +76,15 @@ LeavesMeet spec w k = (p : Path) (c : ComponentId) (d : ContractId) → IsReache
 -- The guarantee of the system's contract holds at position 0, and so does every reached assumption.
 pub record IsSystemSafe (spec : Spec) (w : Path → Trace) (k : ContractId) : Type 0 where
   pub guaranteed : Holds (w []) (guarantee spec spec.system k) 0
-  pub assumed : (p : Path) (c : ComponentId) (d : ContractId) → IsReached spec k p c d → Holds (w p) (assumption spec c d) 0
+  pub assumed : (p : Path) (c : ComponentId) (d : ContractId) → IsReached spec k p c d
+      → Holds (w p) (assumption spec c d) 0
+
+-- Each system trace whose unrefined reached contracts hold, and whose environment meets the assumption of this contract of
+-- the system, meets its guarantee and every reached assumption.
+abbrev pub IsSafeFor : Spec → ContractId → Type 0
+IsSafeFor spec k = (w : Path → Trace) → IsSystemTrace spec w → LeavesMeet spec w k
+    → Holds (w []) (assumption spec spec.system k) 0 → IsSystemSafe spec w k
+
+-- The same for every contract of the system.
+abbrev pub IsSafe : Spec → Type 0
+IsSafe spec = (k : ContractId) → IsSafeFor spec k

@@ -1,3 +1,4 @@
+-- Specifications over truth values, and the verdicts of their questions.
 use Rattle.architecture.specs.Propositional.{IsPropositionalSpec}
 use Rattle.std.specs.Prelude.{◌≡◌, ℕ, Bool, true, false, List, [], ◌∷◌, length, Option, Some, None, slice_get}
 use Rattle.oss_base.specs.declared.ids.ComponentId.{ComponentId}
@@ -18,8 +19,6 @@ use Rattle.typed_ltl.specs.Traces.{word}
 use Rattle.obligations.specs.Levels.{Part, Question, entails, assumes, IsFreeTrace, IsValid, IsBrokenBy}
 use Rattle.obligations.specs.Valuations.{boolean_values, breaks, first_breaking}
 
--- Specifications over truth values, and the verdicts of their questions.
-
 -- A question is refuted by the least valuation that breaks it, as a lasso of one position, and proved
 -- where there is none.
 abbrev pub IsVerdict : Option (List Bool) → Verdict → Type 0
@@ -27,29 +26,39 @@ IsVerdict (Some bs) (verdict.Refuted lasso) = (lasso.states ≡ boolean_values b
 IsVerdict None verdict.Proved = Unit {0}
 IsVerdict _ _ = ⊥
 
+-- the least valuation of the free ports of a level's component that breaks a question
+abbrev pub least_breaking : Spec → Item → Question → Option (List Bool)
+least_breaking spec item q = first_breaking (length (free_targets spec item.component)) q
+
 abbrev pub AreAssumesVerdicts : Spec → Item → List Part → List Verdict → Type 0
 AreAssumesVerdicts spec item [] [] = Unit {0}
 AreAssumesVerdicts spec item (part ∷ parts) (v ∷ vs) =
-    IsVerdict (first_breaking (length (free_targets spec item.component)) (assumes spec item part)) v × AreAssumesVerdicts spec item parts vs
+    IsVerdict (least_breaking spec item (assumes spec item part)) v × AreAssumesVerdicts spec item parts vs
 AreAssumesVerdicts spec item _ _ = ⊥
 
 -- the verdicts of a level: of its entails question, then of the assumes questions in the order of the list
 abbrev pub AreVerdicts : Spec → Item → List Verdict → Type 0
 AreVerdicts spec item [] = ⊥
 AreVerdicts spec item (v ∷ vs) =
-    IsVerdict (first_breaking (length (free_targets spec item.component)) (entails spec item)) v × AreAssumesVerdicts spec item item.parts vs
+    IsVerdict (least_breaking spec item (entails spec item)) v × AreAssumesVerdicts spec item item.parts vs
 
 -- The questions of a specification over truth values are decided at one position: a question that no
 -- valuation breaks is valid, and the lasso of a valuation that breaks it gives each free port a value
 -- of its type, and breaks it.
 pub record OnePositionDecides (spec : Spec) (item : Item) (q : Question) : Type 0 where
-  pub valid : first_breaking (length (free_targets spec item.component)) q ≡ None → IsValid spec item.component q
-  pub typed : (bs : List Bool) → first_breaking (length (free_targets spec item.component)) q ≡ Some bs → IsFreeTrace spec item.component (word (boolean_values bs ∷ []) 0)
-  pub broken : (bs : List Bool) → first_breaking (length (free_targets spec item.component)) q ≡ Some bs → IsBrokenBy q (boolean_values bs ∷ []) 0
+  pub valid : least_breaking spec item q ≡ None → IsValid spec item.component q
+  pub typed :
+      (bs : List Bool) → least_breaking spec item q ≡ Some bs
+      → IsFreeTrace spec item.component (word (boolean_values bs ∷ []) 0)
+  pub broken : (bs : List Bool) → least_breaking spec item q ≡ Some bs → IsBrokenBy q (boolean_values bs ∷ []) 0
+
+-- the questions of a level are decided by single valuations
+abbrev pub IsDecidedLevel : Spec → Item → Type 0
+IsDecidedLevel spec item = OnePositionDecides spec item (entails spec item)
+    × ((part : Part) → OnePositionDecides spec item (assumes spec item part))
 
 abbrev pub LevelsAreDecided : Type 0
-LevelsAreDecided = (spec : Spec) (item : Item) → IsPropositionalSpec spec
-    → OnePositionDecides spec item (entails spec item) × ((part : Part) → OnePositionDecides spec item (assumes spec item part))
+LevelsAreDecided = (spec : Spec) (item : Item) → IsPropositionalSpec spec → IsDecidedLevel spec item
 
 -- One list of truth values stands before another of the same length: at the first place where they
 -- differ it has false.
@@ -69,4 +78,5 @@ pub record IsLeast (n : ℕ) (test : List Bool → Bool) (bs : List Bool) : Type
 
 -- The first valuation that breaks a question is the least one.
 abbrev pub FirstIsLeast : Type 0
-FirstIsLeast = (n : ℕ) (q : Question) (bs : List Bool) → first_breaking n q ≡ Some bs → IsLeast n (λ (cs : List Bool). breaks cs q) bs
+FirstIsLeast = (n : ℕ) (q : Question) (bs : List Bool) → first_breaking n q ≡ Some bs
+    → IsLeast n (λ (cs : List Bool). breaks cs q) bs

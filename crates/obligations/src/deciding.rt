@@ -1,3 +1,6 @@
+//! The verdicts of a level over truth values: the least line of its table that breaks a question. It goes away when questions are
+//! decided by searches.
+
 ghost use Rattle.architecture.specs.Propositional.{IsPropositionalSpec};
 ghost use Rattle.std.specs.Prelude.{◌≡◌, ◌∷◌, [], ◌<◌, IfOk, Some, length, find, slice_get};
 ghost use Rattle.std.specs.Option.{option_copied, option_map};
@@ -6,9 +9,9 @@ ghost use Rattle.obligations.specs.Levels.{Part, is_of_another_sub as of_another
 ghost use Rattle.obligations.specs.Tables.{meets as meets_of, others_meet as others_met, assume_at as assumed_at, breaks_entails as entails_broken, breaks_assumes as assumes_broken};
 ghost use Rattle.obligations.specs.Valuations.{boolean_values};
 ghost use Rattle.obligations.specs.Verdicts.{IsVerdict, AreVerdicts};
-ghost use Rattle.obligations.specs.declared.table.Row.{Row as TheRow};
+ghost use Rattle.obligations.specs.declared.table.TableLine.{TableLine as TheLine};
 
-use crate::table::{Row, Truths, lines};
+use crate::table::{TableLine, Truths, lines};
 use architecture::{Item, Spec};
 use connections::port_drivers;
 use oss_base::{ContractId, SubId};
@@ -37,7 +40,7 @@ fn all_meet(parts: &[Truths]) -> bool
     parts.iter().all(meets)
 }
 
-fn breaks_entails(row: &Row) -> bool
+fn breaks_entails(row: &TableLine) -> bool
     ensures { result ≡ entails_broken row.now }
 {
     all_meet(row.parts.as_slice()) && row.own.assume && !row.own.guarantee
@@ -65,7 +68,7 @@ fn breaks_assumes(
     parts: &[(SubId, ContractId)],
     place: usize,
     part: (SubId, ContractId),
-    row: &Row,
+    row: &TableLine,
 ) -> bool
     ensures { result ≡ assumes_broken parts.now place part row.now }
 {
@@ -74,7 +77,7 @@ fn breaks_assumes(
         && !assume_at(row.parts.as_slice(), place)
 }
 
-fn first_against_entails(table: &[Row]) -> Option<&Row>
+fn first_against_entails(table: &[TableLine]) -> Option<&TableLine>
     ensures { option_copied result ≡ find entails_broken table.now }
 {
     for row in table {
@@ -86,11 +89,11 @@ fn first_against_entails(table: &[Row]) -> Option<&Row>
 }
 
 fn first_against_assumes<'a>(
-    table: &'a [Row],
+    table: &'a [TableLine],
     parts: &[(SubId, ContractId)],
     place: usize,
     part: (SubId, ContractId),
-) -> Option<&'a Row>
+) -> Option<&'a TableLine>
     ensures { option_copied result ≡ find (assumes_broken parts.now place part) table.now }
 {
     for row in table {
@@ -122,8 +125,8 @@ fn one_position(alloc: Global, values: &[bool]) -> Result<Lasso, NoMemory>
     Ok(Lasso { states, loop_at: 0 })
 }
 
-fn verdict(alloc: Global, found: Option<&Row>) -> Result<Verdict, NoMemory>
-    ensures { IfOk result (IsVerdict (option_map (λ (row : TheRow). row.free) (option_copied found.entry))) }
+fn verdict(alloc: Global, found: Option<&TableLine>) -> Result<Verdict, NoMemory>
+    ensures { IfOk result (IsVerdict (option_map (λ (row : TheLine). row.free) (option_copied found.entry))) }
 {
     match found {
         Some(row) => Ok(Verdict::Refuted(one_position(alloc, row.free.as_slice())?)),
@@ -134,13 +137,13 @@ fn verdict(alloc: Global, found: Option<&Row>) -> Result<Verdict, NoMemory>
 /// The verdict of the assumes question of the listed contract at this place, by the level's table.
 fn assumes_verdict(
     alloc: Global,
-    table: &[Row],
+    table: &[TableLine],
     parts: &[(SubId, ContractId)],
     place: usize,
 ) -> Result<Verdict, NoMemory>
     requires { place < length parts.now }
     ensures { IfOk result (λ v. (part : Part) → slice_get parts.now place ≡ Some part
-        → IsVerdict (option_map (λ (row : TheRow). row.free) (find (assumes_broken parts.now place part) table.now)) v) }
+        → IsVerdict (option_map (λ (row : TheLine). row.free) (find (assumes_broken parts.now place part) table.now)) v) }
 {
     let part = parts[place];
     verdict(alloc, first_against_assumes(table, parts, place, part))

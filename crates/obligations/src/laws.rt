@@ -1,3 +1,5 @@
+//! Laws about levels, systems and composition, for callers that cite them. None of these functions has code.
+
 ghost use Rattle.obligations.specs.Laws.{ContractsCompose};
 ghost use Rattle.obligations.specs.Safety.{ProvedSystemsAreSafe};
 ghost use Rattle.obligations.specs.Verdicts.{LevelsAreDecided, FirstIsLeast};

@@ -1,3 +1,5 @@
+//! The names of obligations.
+
 ghost use Rattle.std.specs.Prelude.{◌≡◌, ◌++◌, IfOk, OnOk, string_bytes};
 ghost use Rattle.obligations.specs.Names.{component_name as name_of_component, contract_name as name_of_contract, sub_name as name_of_sub, part_name as name_of_part, level_name as name_of_level};
 

@@ -1,7 +1,9 @@
+//! The table of a level over truth values: a line for each valuation of the free ports, in their order.
+
 ghost use Rattle.std.specs.Prelude.{◌≡◌, ◌++◌, [], IfOk, OnOk, map, slice_index_or, false, List, Bool};
-ghost use Rattle.typed_ltl.specs.Formulas.{meaning, test_of};
-ghost use Rattle.obligations.specs.Valuations.{truth as truth_of, test_truth, valuations};
-ghost use Rattle.obligations.specs.Tables.{source_truth as source_value, wire_truths as wire_values, port_truths as port_values, driver_truth as driver_value, contract_truths as contract_values, part_truths as part_values, row_at};
+ghost use Rattle.typed_ltl.specs.Formulas.{meaning, proposition_of};
+ghost use Rattle.obligations.specs.Valuations.{boolean_truth, test_truth, valuations};
+ghost use Rattle.obligations.specs.Tables.{source_truth as source_value, wire_truths as wire_values, port_truths as port_values, driver_truth as driver_value, contract_truths as contract_values, part_truths as part_values, table_line};
 
 use architecture::{Item, Source, Spec, Wire};
 use connections::Driver;
@@ -21,7 +23,7 @@ pub struct Truths {
 /// A line of a level's table: a valuation of the free ports, and the truth values of the refined
 /// contract and of the listed ones there.
 #[derive(Debug, Drop)]
-pub struct Row {
+pub struct TableLine {
     pub free: Items<bool>,
     pub own: Truths,
     pub parts: Items<Truths>,
@@ -30,7 +32,7 @@ pub struct Row {
 /// The truth value of a formula over truth values of ports. Forms that do not speak of truth values of
 /// one valuation count as false.
 pub fn truth(formula: &Formula, values: &[bool]) -> bool
-    ensures { result ≡ truth_of values.now (meaning formula.now) }
+    ensures { result ≡ boolean_truth values.now (meaning formula.now) }
 {
     match formula {
         Formula::True => true,
@@ -65,7 +67,7 @@ fn value_at(values: &[bool], place: usize) -> bool
 }
 
 fn atom_truth(atom: &Atom, values: &[bool]) -> bool
-    ensures { result ≡ test_truth values.now (test_of atom.now) }
+    ensures { result ≡ test_truth values.now (proposition_of atom.now) }
 {
     match atom {
         Atom::Port { port, next } => !*next && value_at(values, port.0 as usize),
@@ -201,8 +203,8 @@ pub fn line(
     item: &Item,
     rows: &[Items<Driver>],
     free: &[bool],
-) -> Result<Row, NoMemory>
-    ensures { IfOk result (λ row. row ≡ row_at spec.now item.now rows.now free.now) }
+) -> Result<TableLine, NoMemory>
+    ensures { IfOk result (λ row. row ≡ table_line spec.now item.now rows.now free.now) }
 {
     let wires = wire_truths(alloc, spec.wires_of(item.component), free)?;
     let values = port_truths(alloc, rows, free, wires.as_slice())?;
@@ -220,7 +222,7 @@ pub fn line(
         item.parts.as_slice(),
     )?;
     let free = Items::from_slice(alloc, free)?;
-    Ok(Row { free, own, parts })
+    Ok(TableLine { free, own, parts })
 }
 
 /// Puts the lines of all valuations that begin with `front` and have `more` further values at the end
@@ -232,9 +234,10 @@ fn add_lines(
     rows: &[Items<Driver>],
     front: &mut Vec<bool>,
     more: usize,
-    table: &mut Vec<Row>,
+    table: &mut Vec<TableLine>,
 ) -> Result<(), NoMemory>
-    ensures table { OnOk result (table.new.items ≡ table.old.items ++ map (λ (bs : List Bool). row_at spec.now item.now rows.now (front.old.items ++ bs)) (valuations more)) }
+    ensures table { OnOk result (table.new.items ≡ table.old.items
+        ++ map (λ (bs : List Bool). table_line spec.now item.now rows.now (front.old.items ++ bs)) (valuations more)) }
     ensures front { OnOk result (front.new.items ≡ front.old.items) }
 {
     if more == 0 {
@@ -258,8 +261,8 @@ pub fn lines(
     item: &Item,
     rows: &[Items<Driver>],
     free: usize,
-) -> Result<Vec<Row>, NoMemory>
-    ensures { IfOk result (λ table. table.items ≡ map (row_at spec.now item.now rows.now) (valuations free)) }
+) -> Result<Vec<TableLine>, NoMemory>
+    ensures { IfOk result (λ table. table.items ≡ map (table_line spec.now item.now rows.now) (valuations free)) }
 {
     let mut table = Vec::new(alloc);
     let mut front = Vec::new(alloc);

@@ -1,3 +1,5 @@
+//! One system of two valves, with verdicts and names found by hand.
+
 use crate::{ObligationName, verdicts};
 use architecture::{
     Component, Components, Contract, Contracts, Item, ItemParts, Items, OwnPort, OwnPorts,
@@ -135,42 +137,6 @@ fn valves(alloc: Global, fire: Option<Formula>) -> Result<Spec, NoMemory> {
     })
 }
 
-/// A system with the output `y`, and two subcomponents `u` and `v` whose inputs `i` are connected to each
-/// other's outputs `o`. Each guarantees its output where its input holds. The free ports are `u.o` and
-/// `v.o`.
-fn circle(alloc: Global) -> Result<Spec, NoMemory> {
-    let mut outputs = OwnPorts::new(alloc);
-    outputs.push(OwnPort {
-        name: Name::new(alloc, "y")?,
-        input: false,
-        kind: PortType::Bool,
-    })?;
-    let mut wires = Wires::new(alloc);
-    wires.push(wire(alloc, Some(SubId(0)), 0, port(1)))?;
-    wires.push(wire(alloc, Some(SubId(1)), 0, port(0)))?;
-    wires.push(wire(alloc, None, 0, port(0)))?;
-    let mut components = Components::new(alloc);
-    components.push(Component {
-        name: Name::new(alloc, "R")?,
-        ports: outputs,
-        contracts: one_contract(alloc, "c", Formula::True, port(0))?,
-        subs: two_subs(alloc, "u", "v")?,
-        wires,
-    })?;
-    components.push(Component {
-        name: Name::new(alloc, "Unit")?,
-        ports: ports(alloc, "i", "o")?,
-        contracts: one_contract(alloc, "c", port(0), port(1))?,
-        subs: Subs::new(alloc),
-        wires: Wires::new(alloc),
-    })?;
-    Ok(Spec {
-        components,
-        items: items(alloc, 2)?,
-        system: ComponentId(0),
-    })
-}
-
 /// The values of a verdict's lasso, one letter each, or `proved`.
 fn shown(alloc: Global, verdict: &Verdict) -> Result<String, NoMemory> {
     let mut text = String::new(alloc);
@@ -205,36 +171,11 @@ fn all_shown(alloc: Global, spec: &Spec) -> Result<String, NoMemory> {
 }
 
 #[test]
-fn two_tight_valves_are_safe(rt: HostRuntime) -> Result<(), Fail> {
-    let alloc = rt.alloc();
-    let fire = Formula::both(alloc, port(1), port(2))?;
-    let spec = valves(alloc, Some(fire))?;
-    assert_eq!(rt; all_shown(alloc, &spec)?.as_str(), "proved proved proved ");
-    Ok(())
-}
-
-#[test]
 fn a_negated_flow_is_refuted_at_the_least_valuation(rt: HostRuntime) -> Result<(), Fail> {
     let alloc = rt.alloc();
     let fire = Formula::negation(alloc, port(1))?;
     let spec = valves(alloc, Some(fire))?;
     assert_eq!(rt; all_shown(alloc, &spec)?.as_str(), "fff proved proved ");
-    Ok(())
-}
-
-#[test]
-fn an_output_without_connection_is_free(rt: HostRuntime) -> Result<(), Fail> {
-    let alloc = rt.alloc();
-    let spec = valves(alloc, None)?;
-    assert_eq!(rt; all_shown(alloc, &spec)?.as_str(), "ftff proved proved ");
-    Ok(())
-}
-
-#[test]
-fn two_that_assume_each_other_prove_nothing(rt: HostRuntime) -> Result<(), Fail> {
-    let alloc = rt.alloc();
-    let spec = circle(alloc)?;
-    assert_eq!(rt; all_shown(alloc, &spec)?.as_str(), "ff ff ff ");
     Ok(())
 }
 
@@ -252,78 +193,5 @@ fn obligations_have_their_names(rt: HostRuntime) -> Result<(), Fail> {
         assumes.text(alloc, &spec)?.as_str(),
         "Thr.safe assumes b.tight"
     );
-    Ok(())
-}
-
-/// A formula of two hundred operators that is always true.
-fn always_true(alloc: Global) -> Result<Formula, NoMemory> {
-    let mut formula = port(0);
-    for i in 0..100 {
-        let other = Formula::negation(alloc, port(i % 12))?;
-        formula = Formula::either(alloc, formula, other)?;
-    }
-    Ok(formula)
-}
-
-fn inputs(alloc: Global) -> Result<OwnPorts, NoMemory> {
-    let mut ports = OwnPorts::new(alloc);
-    for _ in 0..12 {
-        ports.push(OwnPort {
-            name: Name::new(alloc, "p")?,
-            input: true,
-            kind: PortType::Bool,
-        })?;
-    }
-    Ok(ports)
-}
-
-/// A system with twelve inputs and a guarantee that never holds, refined by the contracts of
-/// twenty-four subcomponents, whose twelve inputs are connected to those of the system.
-fn wide(alloc: Global) -> Result<Spec, NoMemory> {
-    let mut subs = Subs::new(alloc);
-    let mut wires = Wires::new(alloc);
-    for s in 0..24 {
-        subs.push(Sub {
-            name: Name::new(alloc, "k")?,
-            component: ComponentId(1),
-        })?;
-        for p in 0..12 {
-            wires.push(wire(alloc, Some(SubId(s)), p, port(p)))?;
-        }
-    }
-    let mut components = Components::new(alloc);
-    components.push(Component {
-        name: Name::new(alloc, "S")?,
-        ports: inputs(alloc)?,
-        contracts: one_contract(alloc, "c", always_true(alloc)?, Formula::False)?,
-        subs,
-        wires,
-    })?;
-    components.push(Component {
-        name: Name::new(alloc, "K")?,
-        ports: inputs(alloc)?,
-        contracts: one_contract(alloc, "c", always_true(alloc)?, always_true(alloc)?)?,
-        subs: Subs::new(alloc),
-        wires: Wires::new(alloc),
-    })?;
-    Ok(Spec {
-        components,
-        items: items(alloc, 24)?,
-        system: ComponentId(0),
-    })
-}
-
-#[test]
-fn twelve_free_ports_and_twenty_four_contracts_are_decided(rt: HostRuntime) -> Result<(), Fail> {
-    let alloc = rt.alloc();
-    let spec = wide(alloc)?;
-    for item in spec.items.as_slice() {
-        let verdicts = verdicts(alloc, &spec, item)?;
-        assert_eq!(rt; verdicts.len(), 25);
-        for (place, verdict) in verdicts.as_slice().iter().enumerate() {
-            let expected = if place == 0 { "ffffffffffff" } else { "proved" };
-            assert_eq!(rt; shown(alloc, verdict)?.as_str(), expected);
-        }
-    }
     Ok(())
 }

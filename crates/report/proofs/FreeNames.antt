@@ -14,7 +14,7 @@ use Rattle.architecture.specs.declared.wire.Target.{Target}
 use Rattle.architecture.specs.Architecture.{ports_of, subs_of, ports_at, wires_of, port_at, target, targets_at, same_target, connection, free_place}
 use Rattle.connections.specs.declared.driving.Driver.{Driver}
 use Rattle.connections.specs.declared.driving.Driver.TheVariants as driver
-use Rattle.connections.specs.Drivers.{place_of, first_wire, driver_of, driver_rows}
+use Rattle.connections.specs.Drivers.{first_place, first_wire, driver_of, driver_rows}
 use Rattle.report.specs.FreeNames.{port_prefix, port_text, free_names}
 use Rattle.report.specs.FreeRows.{where_free, row_names, sub_row_names}
 
@@ -30,9 +30,9 @@ found_step true x o q e = refl
 found_step false x o None e = e
 found_step false x o (Some k) e = e
 
-found_where_placed : {X : Type 0} (p : X → Bool) (xs : List X) → is_none (find p xs) ≡ is_none (place_of p xs)
+found_where_placed : {X : Type 0} (p : X → Bool) (xs : List X) → is_none (find p xs) ≡ is_none (first_place p xs)
 found_where_placed p [] = refl
-found_where_placed p (x ∷ xs) = found_step (p x) x (find p xs) (place_of p xs) (found_where_placed p xs)
+found_where_placed p (x ∷ xs) = found_step (p x) x (find p xs) (first_place p xs) (found_where_placed p xs)
 
 -- one port of a row
 shown_step : (q : Option ℕ) (b : Bool) (k : ℕ) (name : List ℕ) (t : Target) (rest : List Target) (text : Target → List ℕ) → b ≡ is_none q → name ≡ text t

@@ -1,21 +1,16 @@
+-- The answers to all obligations of a specification, and what they say of the whole system.
 use Rattle.architecture.specs.Propositional.{IsPropositionalSpec}
 use Rattle.std.specs.Prelude.{◌≡◌, ℕ, zero, suc, ◌+◌, List, [], ◌∷◌, ◌++◌}
-use Rattle.oss_base.specs.declared.ids.ContractId.{ContractId}
 use Rattle.oss_base.specs.declared.ids.ItemId.{ItemId}
 use Rattle.architecture.specs.declared.spec.Spec.{Spec}
 use Rattle.architecture.specs.declared.item.Item.{Item}
 use Rattle.typed_ltl.specs.declared.lasso.Verdict.{Verdict}
-use Rattle.typed_ltl.specs.Traces.{Trace}
-use Rattle.typed_ltl.specs.Truth.{Holds}
 use Rattle.obligations.specs.declared.name.ObligationName.{ObligationName}
 use Rattle.obligations.specs.declared.name.ObligationName.TheVariants as obligation
-use Rattle.obligations.specs.Levels.{assumption}
-use Rattle.obligations.specs.Systems.{Path, IsSystemTrace, LeavesMeet, IsSystemSafe}
+use Rattle.obligations.specs.Systems.{IsSafe}
 use Rattle.obligations.specs.Verdicts.{AreVerdicts}
 use Rattle.report.specs.declared.answers.Answer.{Answer}
 use Rattle.report.specs.Answers.{status}
-
--- The answers to all obligations of a specification, and what they say of the whole system.
 
 abbrev pub answer : ObligationName → Verdict → Answer
 answer name v = record { name = name; verdict = v }
@@ -38,16 +33,15 @@ level_answers n vs = answers_from (record { 0 = n }) 0 vs
 -- its questions in order, then the answers of the further levels.
 abbrev pub AreAnswersFrom : Spec → ℕ → List Item → List Answer → Type 0
 AreAnswersFrom spec n [] answers = answers ≡ []
-AreAnswersFrom spec n (item ∷ items) answers = (vs : List Verdict) × (rest : List Answer) × AreVerdicts spec item vs × (answers ≡ level_answers n vs ++ rest)
+AreAnswersFrom spec n (item ∷ items) answers = (vs : List Verdict) × (rest : List Answer) × AreVerdicts spec item vs
+    × (answers ≡ level_answers n vs ++ rest)
     × AreAnswersFrom spec (n + 1) items rest
 
 -- the answers to all obligations, in text order of the refined contracts
 abbrev pub AreAnswers : Spec → List Answer → Type 0
 AreAnswers spec answers = AreAnswersFrom spec 0 spec.items answers
 
--- Where all obligations of a specification over truth values are answered and the status is 0, each system
--- trace whose unrefined reached contracts hold, and whose environment meets the assumption of a contract
--- of the system, meets its guarantee and every reached assumption.
+-- Where all obligations of a specification over truth values are answered and the status is 0, the system is safe.
 abbrev pub SuccessIsSafe : Type 0
-SuccessIsSafe = (spec : Spec) → IsPropositionalSpec spec → (answers : List Answer) → AreAnswers spec answers → status answers ≡ 0
-    → (k : ContractId) (w : Path → Trace) → IsSystemTrace spec w → LeavesMeet spec w k → Holds (w []) (assumption spec spec.system k) 0 → IsSystemSafe spec w k
+SuccessIsSafe = (spec : Spec) → IsPropositionalSpec spec → (answers : List Answer) → AreAnswers spec answers
+    → status answers ≡ 0 → IsSafe spec

@@ -1,10 +1,9 @@
+-- Which verdict an answer has, and the exit status of all answers together.
 use Rattle.std.specs.Prelude.{ℕ, Bool, true, false, List, if◌then◌else◌}
 use Rattle.std.specs.List.{list_any}
 use Rattle.typed_ltl.specs.declared.lasso.Verdict.TheVariants as verdict
 use Rattle.typed_ltl.specs.declared.lasso.Verdict.{Verdict}
 use Rattle.report.specs.declared.answers.Answer.{Answer}
-
--- Which verdict an answer has, and the exit status of all answers together.
 
 abbrev pub says_proved : Verdict → Bool
 says_proved verdict.Proved = true

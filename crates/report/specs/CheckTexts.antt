@@ -1,3 +1,4 @@
+-- The report of a check. Each line ends by LF, the byte 10.
 use Rattle.std.specs.Prelude.{ℕ, List, [], ◌++◌, slice_get, codes, decimal}
 use Rattle.std.specs.List.{flat_map, count_by}
 use Rattle.std.specs.Option.{option_map_or}
@@ -15,15 +16,14 @@ use Rattle.report.specs.Answers.{is_proved, is_refuted, is_undecided}
 use Rattle.report.specs.FreeNames.{free_names}
 use Rattle.report.specs.LassoBlocks.{lasso_block}
 
--- The report of a check. Each line ends by LF, the byte 10.
-
-abbrev pub item_of : ObligationName → ItemId
-item_of (obligation.Entails item) = item
-item_of (obligation.Assumes item place) = item
+abbrev pub obligation_item : ObligationName → ItemId
+obligation_item (obligation.Entails item) = item
+obligation_item (obligation.Assumes item place) = item
 
 -- the component that an obligation speaks of; one that does not exist counts as the system's
-abbrev pub component_of : Spec → ObligationName → ComponentId
-component_of spec name = option_map_or (λ (item : Item). item.component) (slice_get spec.items (item_of name).0) spec.system
+abbrev pub obligation_component : Spec → ObligationName → ComponentId
+obligation_component spec name =
+    option_map_or (λ (item : Item). item.component) (slice_get spec.items (obligation_item name).0) spec.system
 
 abbrev pub verdict_word : Verdict → List ℕ
 verdict_word verdict.Proved = codes "proved"
@@ -38,11 +38,12 @@ shown_lasso spec c (verdict.Refuted lasso) = lasso_block (component_name spec c)
 
 abbrev pub answer_text : Spec → Answer → List ℕ
 answer_text spec answer = verdict_word answer.verdict ++ codes " " ++ obligation_text spec answer.name ++ codes "\n"
-    ++ shown_lasso spec (component_of spec answer.name) answer.verdict
+    ++ shown_lasso spec (obligation_component spec answer.name) answer.verdict
 
 -- how many obligations were proved, refuted and left undecided
 abbrev pub totals_text : List Answer → List ℕ
-totals_text answers = codes "proved " ++ decimal (count_by is_proved answers) ++ codes " refuted " ++ decimal (count_by is_refuted answers)
+totals_text answers = codes "proved " ++ decimal (count_by is_proved answers) ++ codes " refuted "
+    ++ decimal (count_by is_refuted answers)
     ++ codes " undecided " ++ decimal (count_by is_undecided answers) ++ codes "\n"
 
 -- the answers in order, and last the totals

@@ -1,3 +1,4 @@
+-- Ports as they are printed: `p` for a port of the component itself, `s.p` for one of a subcomponent.
 use Rattle.std.specs.Prelude.{ℕ, List, [], ◌++◌, map, Option, Some, None, codes}
 use Rattle.std.specs.Option.{option_map_or}
 use Rattle.oss_base.specs.declared.ids.ComponentId.{ComponentId}
@@ -7,8 +8,6 @@ use Rattle.architecture.specs.declared.port.OwnPort.{OwnPort}
 use Rattle.architecture.specs.declared.wire.Target.{Target}
 use Rattle.architecture.specs.Architecture.{port_at, free_targets}
 use Rattle.obligations.specs.Names.{sub_name}
-
--- Ports as they are printed: `p` for a port of the component itself, `s.p` for one of a subcomponent.
 
 abbrev pub port_prefix : Spec → ComponentId → Option SubId → List ℕ
 port_prefix spec c None = []

@@ -1,3 +1,4 @@
+-- Serves proofs only: how the names of free ports are found: row by row, by what drives each port.
 use Rattle.std.specs.Prelude.{List, ℕ, [], ◌∷◌, ◌++◌, codes}
 use Rattle.std.specs.List.{flat_map, zip}
 use Rattle.architecture.specs.declared.spec.Spec.{Spec}
@@ -6,8 +7,6 @@ use Rattle.architecture.specs.declared.sub.Sub.{Sub}
 use Rattle.architecture.specs.Architecture.{ports_of}
 use Rattle.connections.specs.declared.driving.Driver.{Driver}
 use Rattle.connections.specs.declared.driving.Driver.TheVariants as driver
-
--- How the names of free ports are found: row by row, by what drives each port.
 
 abbrev pub where_free : List ℕ → Driver → List (List ℕ)
 where_free name (driver.Free k) = name ∷ []

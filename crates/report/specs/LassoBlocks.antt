@@ -1,12 +1,11 @@
+-- A lasso as it is printed: a line with the component, the number of states and the place of the loop,
+-- a line for each state, and the line `end`.
 use Rattle.std.specs.Prelude.{ℕ, true, false, List, ◌++◌, length, codes, decimal}
 use Rattle.std.specs.Fmt.{signed_decimal}
 use Rattle.std.specs.List.{flat_map, zip}
 use Rattle.port_types.specs.declared.types.Value.{Value}
 use Rattle.port_types.specs.declared.types.Value.TheVariants as value
 use Rattle.typed_ltl.specs.declared.lasso.Lasso.{Lasso}
-
--- A lasso as it is printed: a line with the component, the number of states and the place of the loop,
--- a line for each state, and the line `end`.
 
 abbrev pub value_text : Value → List ℕ
 value_text (value.Bool true) = codes "true"
@@ -23,5 +22,6 @@ state_line ports values = codes "state" ++ flat_map port_value_text (zip ports v
 
 abbrev pub lasso_block : List ℕ → List (List ℕ) → Lasso → List ℕ
 lasso_block component ports lasso =
-    codes "lasso " ++ component ++ codes " " ++ decimal (length lasso.states) ++ codes " " ++ decimal lasso.loop_at ++ codes "\n"
+    codes "lasso " ++ component ++ codes " " ++ decimal (length lasso.states) ++ codes " " ++ decimal lasso.loop_at
+    ++ codes "\n"
     ++ flat_map (state_line ports) lasso.states ++ codes "end\n"

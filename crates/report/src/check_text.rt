@@ -3,7 +3,7 @@
 ghost use Rattle.std.specs.Prelude.{◌≡◌, ◌++◌, IfOk, OnOk, slice_get};
 ghost use Rattle.std.specs.List.{flat_map, count_by};
 ghost use Rattle.report.specs.Answers.{is_proved, is_refuted, is_undecided};
-ghost use Rattle.report.specs.CheckTexts.{answer_text, check_text, component_of as component_by, item_of as item_by, shown_lasso, totals_text, verdict_word as word_of};
+ghost use Rattle.report.specs.CheckTexts.{answer_text, check_text, obligation_component as component_by, obligation_item as item_by, shown_lasso, totals_text, verdict_word as word_of};
 
 use crate::answers::{Answer, Answers};
 use crate::free_ports::free_names;
@@ -66,7 +66,7 @@ fn append_answer(
         alloc,
         text,
         spec,
-        component_of(spec, answer.name),
+        obligation_component(spec, answer.name),
         &answer.verdict,
     )
 }
@@ -81,7 +81,7 @@ fn verdict_word(verdict: &Verdict) -> &'static str
     }
 }
 
-fn item_of(name: ObligationName) -> ItemId
+fn obligation_item(name: ObligationName) -> ItemId
     ensures { result ≡ item_by name }
 {
     match name {
@@ -90,10 +90,10 @@ fn item_of(name: ObligationName) -> ItemId
     }
 }
 
-fn component_of(spec: &Spec, name: ObligationName) -> ComponentId
+fn obligation_component(spec: &Spec, name: ObligationName) -> ComponentId
     ensures { result ≡ component_by spec.now name }
 {
-    match at(spec.items.as_slice(), item_of(name).0 as usize) {
+    match at(spec.items.as_slice(), obligation_item(name).0 as usize) {
         Some(item) => item.component,
         None => spec.system,
     }

@@ -5,4 +5,4 @@ use Rattle.architecture.proofs.Different.{Kept}
 use Rattle.architecture.proofs.first_form_refinement.are_different_parts.Given as goal
 
 abbrev pub invariant-loop-part : goal.invariant-loop-part
-invariant-loop-part l = Kept same_pair (λ part. Some (form.pair_of part)) l.parts l.table l.part-index
+invariant-loop-part l = Kept same_pair (λ part. Some (form.part_pair part)) l.parts l.table l.part-index

@@ -3,9 +3,9 @@ use Rattle.std.specs.List.{find}
 use Rattle.connections.specs.Drivers.{driver_rows}
 use Rattle.connections.specs.declared.driving.Driver.{Driver}
 use Rattle.typed_ltl.specs.declared.lasso.Verdict.{Verdict}
-use Rattle.obligations.specs.declared.table.Row.{Row}
+use Rattle.obligations.specs.declared.table.TableLine.{TableLine}
 use Rattle.obligations.specs.Levels.{Part}
-use Rattle.obligations.specs.Tables.{row_at, breaks_entails, breaks_assumes}
+use Rattle.obligations.specs.Tables.{table_line, breaks_entails, breaks_assumes}
 use Rattle.obligations.specs.Valuations.{valuations}
 use Rattle.obligations.proofs.Decided.{open_verdict, entails_verdict, assumes_verdict, verdicts_start, verdicts_more, stands_at}
 use Rattle.obligations.proofs.deciding.verdicts.Goals as goal
@@ -15,9 +15,9 @@ loop-place-init c ok =
     let spec = c.args.spec.now in
     let item = c.args.item.now in
     let v = c.in_ok-entails.entails in
-    let table : c.in_ok-table.table.items ≡ map (row_at spec item (driver_rows spec item.component)) (valuations c.in_ok-drivers.drivers.free) =
-    c.in_ok-table.ensures ∙ ap (λ (rows : List (List Driver)). map (row_at spec item rows) (valuations c.in_ok-drivers.drivers.free)) (c.as_slice.ensures ∙ c.in_ok-drivers.ensures.rows) in
-    let found = ap (option_map (λ (row : Row). row.free)) (c.first_against_entails.ensures ∙ ap (find breaks_entails) c.as_slice-2.ensures.value) in
+    let table : c.in_ok-table.table.items ≡ map (table_line spec item (driver_rows spec item.component)) (valuations c.in_ok-drivers.drivers.free) =
+    c.in_ok-table.ensures ∙ ap (λ (rows : List (List Driver)). map (table_line spec item rows) (valuations c.in_ok-drivers.drivers.free)) (c.as_slice.ensures ∙ c.in_ok-drivers.ensures.rows) in
+    let found = ap (option_map (λ (row : TableLine). row.free)) (c.first_against_entails.ensures ∙ ap (find breaks_entails) c.as_slice-2.ensures.value) in
     verdicts_start spec item c.push.new.self.items v
     (c.in_ok-push.ensures.items ∙ ap (λ (vs : List Verdict). vs ++ v ∷ []) c.new-verdicts.ensures.items)
     (entails_verdict spec ok item c.in_ok-drivers.drivers.free c.in_ok-table.table.items v c.in_ok-drivers.ensures.free table
@@ -31,11 +31,11 @@ loop-place-preserved c ok =
     let v = c.in_ok-assumes.assumes in
     let s = stands_at item.parts place (omega (arith, c.loop-place-test.true, c.len-place-end.ensures)) in
     let parts : c.as_slice-in-loop-place-2.result.now ≡ item.parts = c.as_slice-in-loop-place-2.ensures in
-    let table : c.in_ok-table.table.items ≡ map (row_at spec item (driver_rows spec item.component)) (valuations c.in_ok-drivers.drivers.free) =
-    c.in_ok-table.ensures ∙ ap (λ (rows : List (List Driver)). map (row_at spec item rows) (valuations c.in_ok-drivers.drivers.free)) (c.as_slice.ensures ∙ c.in_ok-drivers.ensures.rows) in
+    let table : c.in_ok-table.table.items ≡ map (table_line spec item (driver_rows spec item.component)) (valuations c.in_ok-drivers.drivers.free) =
+    c.in_ok-table.ensures ∙ ap (λ (rows : List (List Driver)). map (table_line spec item rows) (valuations c.in_ok-drivers.drivers.free)) (c.as_slice.ensures ∙ c.in_ok-drivers.ensures.rows) in
     let told = c.in_ok-assumes.ensures s.0 (ap (λ (ps : List Part). slice_get ps place) parts ∙ s.1) in
-    let same = ap (λ (ps : List Part). option_map (λ (row : Row). row.free) (find (breaks_assumes ps place s.0) c.as_slice-in-loop-place.result.now)) parts
-    ∙ ap (λ (t : List Row). option_map (λ (row : Row). row.free) (find (breaks_assumes item.parts place s.0) t)) c.as_slice-in-loop-place.ensures.value in
+    let same = ap (λ (ps : List Part). option_map (λ (row : TableLine). row.free) (find (breaks_assumes ps place s.0) c.as_slice-in-loop-place.result.now)) parts
+    ∙ ap (λ (t : List TableLine). option_map (λ (row : TableLine). row.free) (find (breaks_assumes item.parts place s.0) t)) c.as_slice-in-loop-place.ensures.value in
     verdicts_more spec item c.loop-place.verdicts.items c.push-in-loop-place.new.self.items v place s.0
     c.in_ok-push-2.ensures.items s.1 (c.loop-place.invariant ok)
     (assumes_verdict spec ok item c.in_ok-drivers.drivers.free c.in_ok-table.table.items v c.in_ok-drivers.ensures.free table place s.0 s.1
