@@ -50,5 +50,5 @@ says_two a b c before mid now first second one before_mid two =
       later = later;
     }
   where
-    rises : (before mid now : ℕ) → before ≤ mid → min (mid + 1) (2 ^ 64 - 1) ≤ now → min (before + 1) (2 ^ 64 - 1) ≤ now
-    rises before mid now h k = omega arith
+    rises : (before mid now : ℕ) → before ≤ mid → Rose mid now → Rose before now
+    rises before mid now h k = (omega (arith, k.0), λ same. omega (arith, k.0, k.1 (omega (arith, k.0))))

@@ -1,5 +1,5 @@
 -- The words in which the top call says what it answers.
-use Rattle.std.specs.Prelude.{◌≡◌, ℕ, ◌⊎◌, List, Option, IfSome}
+use Rattle.std.specs.Prelude.{ℕ, List, Option, IfSome}
 use Rattle.oss_io.specs.Outside.{Rose}
 use Rattle.ocra_tool.specs.Outcomes.{file_of}
 use Rattle.ocra_tool.specs.Words.{Task}
@@ -11,12 +11,3 @@ OfFile task held P = IfSome task (λ t. IfSome (held (file_of t)) P)
 -- No call failed that a count of faults counts, as it went from `before` to `now`.
 abbrev pub IsQuiet : ℕ → ℕ → Type 0
 IsQuiet before now = ¬ Rose before now
-
--- The statuses that the program ends with: done with nothing refuted, done with something refuted, the file is refused, the words mean no command, the file could not be
--- read, the output could not be written, want of memory.
-abbrev pub IsStatus : ℕ → Type 0
-IsStatus status = (status ≡ 0) ⊎ (status ≡ 1) ⊎ (status ≡ 3) ⊎ (status ≡ 4) ⊎ (status ≡ 5) ⊎ (status ≡ 6) ⊎ (status ≡ 7)
-
--- The statuses of a check that is done.
-abbrev pub IsDone : ℕ → Type 0
-IsDone status = (status ≡ 0) ⊎ (status ≡ 1)

@@ -1,29 +1,15 @@
 -- What `check` answers on a specification: the verdict of each obligation, the report, the status, and what follows for the
 -- whole system where all obligations are proved.
-use Rattle.std.specs.Prelude.{◌≡◌, ℕ, List, []}
-use Rattle.oss_base.specs.declared.ids.ContractId.{ContractId}
-use Rattle.typed_ltl.specs.Traces.{Trace}
-use Rattle.typed_ltl.specs.Truth.{Holds}
+use Rattle.std.specs.Prelude.{◌≡◌, ℕ, List}
 use Rattle.architecture.specs.declared.spec.Spec.{Spec}
 use Rattle.architecture.specs.declared.item.Item.{Item}
-use Rattle.obligations.specs.Levels.{Part, entails, assumes, assumption}
-use Rattle.obligations.specs.Systems.{Path, IsSystemTrace, LeavesMeet, IsSystemSafe}
-use Rattle.obligations.specs.Verdicts.{OnePositionDecides}
+use Rattle.obligations.specs.Systems.{IsSafe}
+use Rattle.obligations.specs.Verdicts.{IsDecidedLevel}
 use Rattle.report.specs.declared.answers.Answer.{Answer}
 use Rattle.report.specs.Answers.{status}
 use Rattle.report.specs.CheckTexts.{check_text}
 use Rattle.report.specs.AllAnswers.{AreAnswers}
 use Rattle.ocra_tool.specs.Files.{IsSystemOf}
-
--- the questions of a level are decided by single valuations
-abbrev pub IsDecidedLevel : Spec → Item → Type 0
-IsDecidedLevel spec item = OnePositionDecides spec item (entails spec item) × ((part : Part) → OnePositionDecides spec item (assumes spec item part))
-
--- Each system trace whose unrefined reached contracts hold, and whose environment meets the assumption of a contract of the
--- system, meets the guarantee of that contract and every reached assumption.
-abbrev pub IsSafe : Spec → Type 0
-IsSafe spec = (k : ContractId) (w : Path → Trace) → IsSystemTrace spec w → LeavesMeet spec w k
-    → Holds (w []) (assumption spec spec.system k) 0 → IsSystemSafe spec w k
 
 -- The bytes are a specification, the text is the report on its obligations, the status is that of the report. What a verdict
 -- says holds over infinite traces: a question that no valuation breaks is valid, and the lasso of one that does breaks it.

@@ -3,6 +3,7 @@
 -- The faults come in phases: the size of the file, its tokens, its syntax, and what isn't built yet. A phase has a fault
 -- only where no earlier one has.
 use Rattle.std.specs.Prelude.{◌≡◌, ℕ, ◌<◌, ◌≤◌, ◌⊎◌, List, length}
+use Rattle.oss_base.specs.Limits.{most_bytes}
 use Rattle.oss_base.specs.declared.fault.Fault.{Fault}
 use Rattle.oss_base.specs.declared.fault.FaultKind.{FaultKind}
 use Rattle.oss_base.specs.declared.fault.FaultKind.TheVariants.{F0, F1}
@@ -11,22 +12,18 @@ use Rattle.oss_syntax.specs.declared.component.TreeComponent.{TreeComponent}
 use Rattle.oss_syntax.specs.Tokens.{AreTokens, IsFirstFault}
 use Rattle.oss_syntax.specs.Terminals.{terminals_of}
 use Rattle.oss_syntax.specs.Texts.{IsText}
-use Rattle.oss_syntax.specs.Trees.{Component, components_of}
+use Rattle.oss_syntax.specs.Trees.{Component, component_trees}
 use Rattle.oss_syntax.specs.SyntaxFaults.{IsSyntaxKind}
 use Rattle.architecture.specs.declared.spec.Spec.{Spec}
 use Rattle.architecture.specs.FirstForm.{FirstForm}
 use Rattle.architecture.specs.Stands.{Stands}
-
--- the limit on a file's size
-abbrev pub most_bytes : ℕ
-most_bytes = 4194304
 
 -- The bytes are a text of the grammar, and this is its tree.
 pub record IsTreeOf (bytes : List ℕ) (components : List TreeComponent) : Type 0 where
   pub short : length bytes ≤ most_bytes
   pub tokens : List Token
   pub cut : AreTokens bytes tokens
-  pub text : IsText (terminals_of bytes tokens) (components_of components)
+  pub text : IsText (terminals_of bytes tokens) (component_trees components)
 
 -- This is the only tree of the text.
 pub record IsSoleTreeOf (bytes : List ℕ) (components : List TreeComponent) : Type 0 where
@@ -75,7 +72,8 @@ pub record IsNotBuilt (bytes : List ℕ) (fault : Fault) : Type 0 where
 
 -- what the bytes of a file are refused for
 abbrev pub IsFaultOf : List ℕ → Fault → Type 0
-IsFaultOf bytes fault = IsSizeFault bytes fault ⊎ IsLexingFault bytes fault ⊎ IsSyntaxFault bytes fault ⊎ IsNotBuilt bytes fault
+IsFaultOf bytes fault = IsSizeFault bytes fault ⊎ IsLexingFault bytes fault ⊎ IsSyntaxFault bytes fault
+    ⊎ IsNotBuilt bytes fault
 
 -- the bytes are refused for some fault
 abbrev pub Refused : List ℕ → Type 0

@@ -1,3 +1,4 @@
+-- A law of files: acceptance and faults exclude each other.
 use Rattle.std.specs.Prelude.{ℕ, List}
 use Rattle.ocra_tool.specs.Files.{Accepted, Refused}
 

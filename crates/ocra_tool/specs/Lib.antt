@@ -6,3 +6,4 @@ pub mod Laws
 pub mod Lines
 pub mod Outcomes
 pub mod Words
+pub mod Statuses

@@ -1,3 +1,5 @@
+//! The words of the command line, as the system hands them in. The edge of the program: nothing of it is a clause.
+
 use port_types::NoMemory;
 use std::alloc::Global;
 use std::env::{Env, FillError};

@@ -1,30 +1,33 @@
-ghost use Rattle.std.specs.Prelude.{◌≡◌, ◌≤◌, ◌↔◌, List, ℕ, length, IfOk};
-ghost use Rattle.ocra_tool.specs.Files.{at_start, most_bytes};
+//! `check FILE`: reads the file and makes its report, or the line of its fault. It reads the shelf and writes to no sink.
+
+ghost use Rattle.std.specs.Prelude.{◌≡◌, ◌≤◌, ◌↔◌, List, ℕ, Option, Some, length, IfOk, IfSome};
+ghost use Rattle.oss_base.specs.Faults.{IfFault};
+ghost use Rattle.oss_base.specs.Limits.{most_bytes};
+ghost use Rattle.ocra_tool.specs.Decided.{IsChecked};
+ghost use Rattle.ocra_tool.specs.Files.{at_start, IsFaultOf, IsSoleTreeOf};
+ghost use Rattle.ocra_tool.specs.Statuses.{IsDone};
 ghost use Rattle.architecture.specs.Propositional.{IsPropositionalSpec};
-ghost use Rattle.report.specs.Answers.{status};
-ghost use Rattle.ocra_tool.specs.Outcomes.{NoneUndecided, ending_status, IsOutcomeOf, IsRefusal, IsReportOf, IsReportOn, IsTreeRead, Means};
+ghost use Rattle.ocra_tool.specs.Outcomes.{IsReportOf, Means};
 ghost use Rattle.ocra_tool.specs.Words.{CheckFile};
 
 use crate::lines::fault_line;
-use crate::outcome::{Ending, Outcome, Report};
+use crate::outcome::{Outcome, Report};
 use architecture::{Spec, resolve};
-use oss_base::{Fault, FaultKind, Place, Stop};
+use oss_base::{Fault, FaultKind, MOST_BYTES, Place, Stop};
 use oss_io::{ReadStop, Shelf, read_all};
 use oss_lexer::lex;
 use oss_reader::read_tree;
 use oss_syntax::SpecTree;
 use port_types::NoMemory;
-use report::{Answers, answer_by_valuations, render_check, status_of};
+use report::{answer_by_valuations, render_check, status_of};
 use std::alloc::Global;
-
-/// The limit on the size of a file, in bytes.
-const MOST_BYTES: usize = 4194304;
 
 /// What comes of `check FILE`.
 pub fn check_file<'a, F: Shelf>(alloc: Global, file: &'a str, shelf: &mut F) -> Outcome<'a>
     requires admits { F.admits shelf.old file.now }
 
-    ensures means { Means (F.held shelf.old) (F.faults shelf.old) (F.faults shelf.new) (CheckFile file.now) result }
+    ensures means { Means (F.held shelf.old file.now) (F.faults shelf.old) (F.faults shelf.new)
+        (CheckFile file.now) result }
 
     ensures held { (n : List ℕ) → F.held shelf.new n ≡ F.held shelf.old n }
     ensures admits { (n : List ℕ) → F.admits shelf.old n ↔ F.admits shelf.new n }
@@ -41,7 +44,7 @@ pub fn check_file<'a, F: Shelf>(alloc: Global, file: &'a str, shelf: &mut F) -> 
 /// What comes of the bytes of a file of this name.
 fn check_bytes<'a>(alloc: Global, file: &'a str, bytes: &[u8]) -> Outcome<'a>
     requires { length bytes.now ≤ most_bytes }
-    ensures { IsOutcomeOf file.now bytes.now result }
+    ensures { Means (Some bytes.now) 0 0 (CheckFile file.now) result }
 {
     match report_on(alloc, bytes) {
         Ok(report) => Outcome::Done(report),
@@ -53,7 +56,8 @@ fn check_bytes<'a>(alloc: Global, file: &'a str, bytes: &[u8]) -> Outcome<'a>
 /// The report on the bytes of a file, or their fault.
 fn report_on(alloc: Global, bytes: &[u8]) -> Result<Report, Stop>
     requires { length bytes.now ≤ most_bytes }
-    ensures { IsReportOn bytes.now result }
+    ensures report { IfOk result (λ report. IsDone report.status × IsChecked bytes.now report.text report.status) }
+    ensures fault { IfFault result (IsFaultOf bytes.now) }
 {
     architecture::first_form_is_propositional();
     obligations::levels_are_decided();
@@ -73,25 +77,15 @@ fn report_of(alloc: Global, spec: &Spec) -> Result<Report, NoMemory>
     let text = render_check(alloc, spec, &answers)?;
     Ok(Report {
         text,
-        ending: ending_of(&answers),
+        status: status_of(&answers),
     })
-}
-
-/// How a check with these answers ends, where none is undecided.
-fn ending_of(answers: &Answers) -> Ending
-    ensures { NoneUndecided answers.now → ending_status result ≡ status answers.now }
-{
-    if status_of(answers) == 0 {
-        Ending::Proved
-    } else {
-        Ending::Refuted
-    }
 }
 
 /// The tree of the text that the bytes are, or the first fault of its size, its tokens or its syntax.
 fn tree_of(alloc: Global, bytes: &[u8]) -> Result<SpecTree, Stop>
     requires { length bytes.now ≤ most_bytes }
-    ensures { IsTreeRead bytes.now result }
+    ensures tree { IfOk result (IsSoleTreeOf bytes.now) }
+    ensures fault { IfFault result (IsFaultOf bytes.now) }
 {
     oss_lexer::one_token_list();
     oss_syntax::trees_are_distinct();
@@ -109,9 +103,10 @@ fn fault_at_start(kind: FaultKind) -> Fault
     }
 }
 
-/// The refusal of a file for a fault.
+/// The refusal of a file for a fault that its bytes have.
 fn refused<'a>(alloc: Global, file: &'a str, fault: Fault) -> Outcome<'a>
-    ensures { IsRefusal file.now fault result }
+    ensures { (told : Option (List ℕ)) (before now : ℕ) → IfSome told (λ bytes. IsFaultOf bytes fault)
+        → Means told before now (CheckFile file.now) result }
 {
     match fault_line(alloc, file, fault) {
         Ok(line) => Outcome::Refused(line),

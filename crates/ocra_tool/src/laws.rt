@@ -1,3 +1,5 @@
+//! Laws about files, for the top call. None of these functions has code.
+
 ghost use Rattle.ocra_tool.specs.Laws.{AcceptedHasNoFault};
 
 /// A file that is accepted has no fault. (A law without code: who calls this function may rely on it.)

@@ -1,3 +1,5 @@
+//! The lines that the program writes: to `err` what went wrong, and the line of a fault of a file.
+
 ghost use Rattle.std.specs.Prelude.{◌≡◌, ◌++◌, IfOk};
 ghost use Rattle.ocra_tool.specs.Outcomes.{fault_line_of};
 ghost use Rattle.ocra_tool.specs.Lines.{Says, no_memory_line, read_fault_line, usage_line, write_fault_line};

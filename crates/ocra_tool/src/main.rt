@@ -17,11 +17,13 @@ mod words;
 use oss_io::{ErrSink, FileShelf, StdSink};
 use port_types::NoMemory;
 use std::process::ExitCode;
+pub use top::run;
+pub use words::{Command, parse_words};
 
 /// Where the words can't be had for want of memory, the status is that of want of memory.
 fn main(rt: HostRuntime) -> ExitCode {
     let status = match arguments::words(rt.alloc(), &rt) {
-        Ok(words) => top::run(
+        Ok(words) => run(
             rt.alloc(),
             words.as_slice(),
             &mut FileShelf::new(&rt),

@@ -1,17 +1,12 @@
+//! What may come of a command before anything of it is written. It touches nothing.
+
 use port_types::Text;
 
-/// How a check ends: everything is proved, or something is refuted.
-#[derive(Clone, Copy, Debug, PartialEq, Eq)]
-pub enum Ending {
-    Proved,
-    Refuted,
-}
-
-/// What a check writes, and how it ends.
+/// What a check writes, and the status that it ends with.
 #[derive(Debug, Drop)]
 pub struct Report {
     pub text: Text,
-    pub ending: Ending,
+    pub status: u8,
 }
 
 /// What came of a command, before anything of it is written.

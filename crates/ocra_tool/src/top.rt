@@ -1,10 +1,14 @@
+//! The top call: reads from the shelf what the words ask for, writes the answer to one sink and what went wrong to the other.
+
 ghost use Rattle.std.specs.Prelude.{◌≡◌, ◌≢◌, ◌≤◌, ◌↔◌, ◌⊎◌, List, ℕ, None, IfSome};
 ghost use Rattle.std.specs.Io.KnownBytes.{Appends};
 ghost use Rattle.oss_io.specs.Outside.{AppendsFront, Rose};
-ghost use Rattle.ocra_tool.specs.Answers.{IsDone, IsQuiet, IsStatus, OfFile};
+ghost use Rattle.ocra_tool.specs.Answers.{IsQuiet, OfFile};
+ghost use Rattle.ocra_tool.specs.Statuses.{IsDone, IsStatus};
 ghost use Rattle.oss_base.specs.declared.fault.Fault.{Fault};
 ghost use Rattle.architecture.specs.declared.spec.Spec.{Spec};
-ghost use Rattle.ocra_tool.specs.Decided.{IsChecked, IsSafe};
+ghost use Rattle.obligations.specs.Systems.{IsSafe};
+ghost use Rattle.ocra_tool.specs.Decided.{IsChecked};
 ghost use Rattle.ocra_tool.specs.Files.{Accepted, IsFaultOf, IsSystemOf, Refused};
 ghost use Rattle.ocra_tool.specs.Lines.{Says, no_memory_line, read_fault_line, usage_line, write_fault_line};
 ghost use Rattle.ocra_tool.specs.Outcomes.{Means, fault_line_of, file_of};
@@ -14,7 +18,7 @@ ghost use Rattle.ocra_tool.specs.Words.{task_of};
 use crate::check::check_file;
 use crate::laws::accepted_has_no_fault;
 use crate::lines::{say, say_no_memory, say_read_fault, say_usage, say_write_fault};
-use crate::outcome::{Ending, Outcome};
+use crate::outcome::Outcome;
 use crate::words::{Command, parse_words};
 use oss_io::{Failed, Shelf, Sink, write_all};
 use std::alloc::Global;
@@ -113,10 +117,7 @@ pub fn run<F: Shelf, O: Sink, E: Sink>(
     };
     match outcome_of(alloc, command, shelf) {
         Outcome::Done(report) => match write_all(out, report.text.as_slice()) {
-            Ok(()) => match report.ending {
-                Ending::Proved => 0,
-                Ending::Refuted => 1,
-            },
+            Ok(()) => report.status,
             Err(Failed) => {
                 say_write_fault(err);
                 6
@@ -141,7 +142,8 @@ pub fn run<F: Shelf, O: Sink, E: Sink>(
 fn outcome_of<'a, F: Shelf>(alloc: Global, command: Command<'a>, shelf: &mut F) -> Outcome<'a>
     requires admitted { F.admits shelf.old (file_of (task_meant command)) }
 
-    ensures means { Means (F.held shelf.old) (F.faults shelf.old) (F.faults shelf.new) (task_meant command.entry) result }
+    ensures means { Means (F.held shelf.old (file_of (task_meant command.entry))) (F.faults shelf.old)
+        (F.faults shelf.new) (task_meant command.entry) result }
 
     ensures held { (n : List ℕ) → F.held shelf.new n ≡ F.held shelf.old n }
     ensures admits { (n : List ℕ) → F.admits shelf.old n ↔ F.admits shelf.new n }

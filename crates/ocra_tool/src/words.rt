@@ -1,3 +1,5 @@
+//! Which command the words of a command line mean.
+
 ghost use Rattle.std.specs.Prelude.{◌≡◌, option_map};
 ghost use Rattle.ocra_tool.specs.Words.{task_of, is_operand};
 ghost use Rattle.ocra_tool.specs.Commands.{task_meant};

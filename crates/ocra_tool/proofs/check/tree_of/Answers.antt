@@ -1,7 +1,12 @@
-use Rattle.ocra_tool.proofs.Excluded.{tree_read}
+use Rattle.ocra_tool.proofs.Excluded.{sole_tree, syntax_fault}
 use Rattle.ocra_tool.proofs.check.tree_of.Goals as goal
 
-pub returns : goal.returns
-returns c =
-    tree_read c.one_token_list.ensures c.trees_are_distinct.ensures c.args.bytes.now c.in_ok-tokens.tokens c.read_tree.result c.requires
-    c.in_ok-tokens.ensures.tokens c.read_tree.ensures.text c.read_tree.ensures.only c.read_tree.ensures.none c.read_tree.ensures.kind
+pub returns-clause-tree : goal.returns-clause-tree
+returns-clause-tree c =
+    sole_tree c.one_token_list.ensures c.trees_are_distinct.ensures c.args.bytes.now c.in_ok-tokens.tokens c.read_tree.result c.requires
+    c.in_ok-tokens.ensures.tokens c.read_tree.ensures.text c.read_tree.ensures.only
+
+pub returns-clause-fault : goal.returns-clause-fault
+returns-clause-fault c =
+    syntax_fault c.args.bytes.now c.in_ok-tokens.tokens c.read_tree.result c.requires
+    c.in_ok-tokens.ensures.tokens c.read_tree.ensures.none c.read_tree.ensures.kind
