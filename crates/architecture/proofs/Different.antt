@@ -1,5 +1,8 @@
-use Rattle.std.proofs.Common.{◌≡◌, ℕ, ◌+◌, ◌<◌, ◌≤◌, Bool, true, false, not, ◌&&◌, ◌||◌, List, [], ◌∷◌, ◌++◌, length, get_or, drop, map, filter_map, Option, Some, None, ◌⊎◌, inl, inr, ⊎_elim, refl, sym, ap, subst, ◌∙◌, append_assoc, arith, bytes_eq, Decides, rules, if◌then◌else◌}
-use Rattle.std.proofs.lemmas.Bool.{false≢true, or_cases, or_parts, or_from, or_left, or_right, and_parts, and_from, and_left, and_right, not_from_true, not_from_false, not-true}
+use Rattle.std.proofs.Common.{◌≡◌, ℕ, ◌+◌, ◌<◌, ◌≤◌, Bool, true, false, not, ◌&&◌, ◌||◌, List, [], ◌∷◌, ◌++◌, length, get_or, drop, map, filter_map}
+use Rattle.std.proofs.Common.{Option, Some, None, ◌⊎◌, inl, inr, ⊎_elim, refl, sym, ap, subst, ◌∙◌, append_assoc, arith, bytes_eq, Decides, rules}
+use Rattle.std.proofs.Common.{if◌then◌else◌}
+use Rattle.std.proofs.lemmas.Bool.{false≢true, or_cases, or_parts, or_from, or_left, or_right, and_parts, and_from, and_left, and_right, not_from_true}
+use Rattle.std.proofs.lemmas.Bool.{not_from_false, not-true}
 use Rattle.std.proofs.lemmas.Bool.Decides.{same_from_decides, Decides-like}
 use Rattle.std.proofs.lemmas.Slice.Eq.{bytes_eq-Decides}
 use Rattle.std.proofs.lemmas.List.Folds.{list_any-append}
@@ -8,7 +11,8 @@ use Rattle.std.specs.List.{list_any, cons_option}
 use Rattle.architecture.specs.Names.{has, same_pair, has_pair, are_different, Puts}
 use Rattle.indexmap.specs.IndexSet.{insert_key}
 
-pub list_any-map : {X Y : Type 0} (p : Y → Bool) (f : X → Y) (xs : List X) → list_any p (map f xs) ≡ list_any (λ x. p (f x)) xs
+pub list_any-map : {X Y : Type 0} (p : Y → Bool) (f : X → Y) (xs : List X)
+    → list_any p (map f xs) ≡ list_any (λ x. p (f x)) xs
 list_any-map p f [] = refl
 list_any-map p f (x ∷ xs) = ap (λ t. p (f x) || t) (list_any-map p f xs)
 
@@ -16,7 +20,8 @@ list_any-map p f (x ∷ xs) = ap (λ t. p (f x) || t) (list_any-map p f xs)
 
 module _ {A : Type 0} (same : A → A → Bool) (symmetric : (x y : A) → same x y ≡ same y x) where
   -- what stands in the front and behind it stands twice
-  pub different-twice : (xs ys : List A) (y : A) → list_any (same y) xs ≡ true → are_different same (xs ++ y ∷ ys) ≡ false
+  pub different-twice : (xs ys : List A) (y : A) → list_any (same y) xs ≡ true
+      → are_different same (xs ++ y ∷ ys) ≡ false
   different-twice [] ys y h = absurd (false≢true h)
   different-twice (x ∷ xs) ys y h =
       ⊎_elim
@@ -25,7 +30,8 @@ module _ {A : Type 0} (same : A → A → Bool) (symmetric : (x y : A) → same 
       (or_cases (same y x) (list_any (same y) xs) h)
 
   -- a new one behind different ones
-  pub different-push : (xs : List A) (y : A) → are_different same xs ≡ true → list_any (same y) xs ≡ false → are_different same (xs ++ y ∷ []) ≡ true
+  pub different-push : (xs : List A) (y : A) → are_different same xs ≡ true → list_any (same y) xs ≡ false
+      → are_different same (xs ++ y ∷ []) ≡ true
   different-push [] y d h = refl
   different-push (x ∷ xs) y d h =
       let front = and_parts (not (list_any (same x) xs)) (are_different same xs) d in
@@ -40,7 +46,8 @@ module _ {X A : Type 0} (f : X → Option A) (items : List X) (table : List A) (
   pub record Taken : Type 0 where
     pub joined : table ++ filter_map f (drop i items) ≡ filter_map f items
 
-taken_next : {X A : Type 0} (f : X → Option A) (items : List X) (i : ℕ) (x : X) → i < length items → x ≡ get_or items i x
+taken_next : {X A : Type 0} (f : X → Option A) (items : List X) (i : ℕ) (x : X) → i < length items
+    → x ≡ get_or items i x
     → filter_map f (drop i items) ≡ cons_option (f x) (filter_map f (drop (i + 1) items))
 taken_next f items i x l e = at_drop_more (filter_map f) items i x l ∙ ap (λ y. cons_option (f y) (filter_map f (drop (i + 1) items))) (sym e)
 
@@ -48,7 +55,8 @@ pub taken_start : {X A : Type 0} (f : X → Option A) (items : List X) → Taken
 taken_start f items = record { joined = refl }
 
 pub taken_some : {X A : Type 0} (f : X → Option A) (items : List X) (table : List A) (i : ℕ) (x : X) (a : A)
-    → i < length items → x ≡ get_or items i x → f x ≡ Some a → Taken f items table i → Taken f items (table ++ a ∷ []) (i + 1)
+    → i < length items → x ≡ get_or items i x → f x ≡ Some a → Taken f items table i
+    → Taken f items (table ++ a ∷ []) (i + 1)
 taken_some f items table i x a l e h taken = record {
   joined = append_assoc table (a ∷ []) (filter_map f (drop (i + 1) items))
       ∙ ap (λ rest. table ++ rest) (sym (taken_next f items i x l e ∙ ap (λ o. cons_option o (filter_map f (drop (i + 1) items))) h))
@@ -90,7 +98,8 @@ pub same_pair-symmetric : (a b : List ℕ × List ℕ) → same_pair a b ≡ sam
 same_pair-symmetric a b = ap (λ t. t && bytes_eq a.1 b.1) (bytes_eq-symmetric a.0 b.0) ∙ ap (λ t. bytes_eq b.0 a.0 && t) (bytes_eq-symmetric a.1 b.1)
 
 -- Where each that `h` gives `k` gives too, and the latter are different, so are the former.
-fewer-lack_step : {A : Type 0} (p : A → Bool) (ks hs : List A) → (list_any p ks ≡ false → list_any p hs ≡ false) → (hx kx : Option A) → (hx ≡ None) ⊎ (hx ≡ kx)
+fewer-lack_step : {A : Type 0} (p : A → Bool) (ks hs : List A) → (list_any p ks ≡ false → list_any p hs ≡ false)
+    → (hx kx : Option A) → (hx ≡ None) ⊎ (hx ≡ kx)
     → list_any p (cons_option kx ks) ≡ false → list_any p (cons_option hx hs) ≡ false
 fewer-lack_step p ks hs rest None None w n = rest n
 fewer-lack_step p ks hs rest None (Some b) w n = rest (or_parts _ _ n).1
@@ -107,7 +116,8 @@ pub fewer-lack : {X A : Type 0} (p : A → Bool) (h k : X → Option A) → ((x 
 fewer-lack p h k part [] none = refl
 fewer-lack p h k part (x ∷ xs) none = fewer-lack_step p (filter_map k xs) (filter_map h xs) (fewer-lack p h k part xs) (h x) (k x) (part x) none
 
-fewer-differ_step : {A : Type 0} (same : A → A → Bool) (ks hs : List A) → ((p : A → Bool) → list_any p ks ≡ false → list_any p hs ≡ false)
+fewer-differ_step : {A : Type 0} (same : A → A → Bool) (ks hs : List A)
+    → ((p : A → Bool) → list_any p ks ≡ false → list_any p hs ≡ false)
     → (are_different same ks ≡ true → are_different same hs ≡ true) → (hx kx : Option A) → (hx ≡ None) ⊎ (hx ≡ kx)
     → are_different same (cons_option kx ks) ≡ true → are_different same (cons_option hx hs) ≡ true
 fewer-differ_step same ks hs lack rest None None w n = rest n
@@ -137,7 +147,8 @@ kept_start same f items = record { taken = taken_start f items; different = refl
 
 pub kept_more : {X A : Type 0} (same : A → A → Bool) (symmetric : (x y : A) → same x y ≡ same y x)
     (f : X → Option A) (items : List X) (table new : List A) (i : ℕ) (x : X) (o : Option A)
-    → i < length items → x ≡ get_or items i x → o ≡ f x → Puts same table o new true → Kept same f items table i → Kept same f items new (i + 1)
+    → i < length items → x ≡ get_or items i x → o ≡ f x → Puts same table o new true → Kept same f items table i
+    → Kept same f items new (i + 1)
 kept_more same symmetric f items table new i x None l e h puts kept = record {
   taken = subst (λ t. Taken f items t (i + 1)) (sym puts) (taken_none f items table i x l e (sym h) kept.taken);
   different = ap (are_different same) puts ∙ kept.different;
@@ -149,27 +160,31 @@ kept_more same symmetric f items table new i x (Some a) l e h puts kept = record
 
 pub kept_twice : {X A : Type 0} (same : A → A → Bool) (symmetric : (x y : A) → same x y ≡ same y x)
     (f : X → Option A) (items : List X) (table new : List A) (i : ℕ) (x : X) (o : Option A)
-    → i < length items → x ≡ get_or items i x → o ≡ f x → Puts same table o new false → Kept same f items table i → are_different same (filter_map f items) ≡ false
+    → i < length items → x ≡ get_or items i x → o ≡ f x → Puts same table o new false → Kept same f items table i
+    → are_different same (filter_map f items) ≡ false
 kept_twice same symmetric f items table new i x None l e h puts kept = absurd puts
 kept_twice same symmetric f items table new i x (Some a) l e h puts kept =
     taken_twice same symmetric f items table i x a l e (sym h) kept.taken puts
 
 pub kept_all : {X A : Type 0} (same : A → A → Bool) (f : X → Option A) (items : List X) (table : List A) (i : ℕ)
-    → length items ≤ i → Kept same f items table i → (are_different same (filter_map f items) ≡ true) × (table ≡ filter_map f items)
+    → length items ≤ i → Kept same f items table i
+    → (are_different same (filter_map f items) ≡ true) × (table ≡ filter_map f items)
 kept_all same f items table i l kept =
     let all = taken_all f items table i l kept.taken in
     (ap (are_different same) (sym all) ∙ kept.different, all)
 
 -- the insertion of a key, of which contracts see what `f` makes of it
 pub puts_key : {K V : Type 0} (same : V → V → Bool) (f : K → V) (keys new : List K) (k : K) (table : List V) (v : V) (added : Bool)
-    → map f keys ≡ table → f k ≡ v → added ≡ not (list_any (λ x. same (f k) (f x)) keys) → new ≡ insert_key (λ x y. same (f x) (f y)) keys k
+    → map f keys ≡ table → f k ≡ v → added ≡ not (list_any (λ x. same (f k) (f x)) keys)
+    → new ≡ insert_key (λ x y. same (f x) (f y)) keys k
     → Puts same table (Some v) (map f new) added
 puts_key same f keys new k table v added tb fk ad nw = by (list_any (λ x. same (f k) (f x)) keys) added refl ad nw
   where
     found : list_any (λ x. same (f k) (f x)) keys ≡ list_any (same v) table
     found = sym (list_any-map (same (f k)) f keys) ∙ (ap (λ w. list_any (same w) (map f keys)) fk ∙ ap (list_any (same v)) tb)
 
-    by : (b a : Bool) → list_any (λ x. same (f k) (f x)) keys ≡ b → a ≡ not b → new ≡ (if b then keys else keys ++ k ∷ []) → Puts same table (Some v) (map f new) a
+    by : (b a : Bool) → list_any (λ x. same (f k) (f x)) keys ≡ b → a ≡ not b → new ≡ (if b then keys else keys ++ k ∷ []) → Puts same table (Some v)
+        (map f new) a
     by true true e p q = absurd (false≢true (sym p))
     by true false e p q = sym found ∙ e
     by false true e p q = (sym found ∙ e, ap (map f) q ∙ (map-append f keys (k ∷ []) ∙ (ap (λ t. t ++ f k ∷ []) tb ∙ ap (λ w. table ++ w ∷ []) fk)))
@@ -178,12 +193,14 @@ puts_key same f keys new k table v added tb fk ad nw = by (list_any (λ x. same 
 -- the same by the answer
 pub kept_step : {X A : Type 0} (same : A → A → Bool) (symmetric : (x y : A) → same x y ≡ same y x)
     (f : X → Option A) (items : List X) (table new : List A) (i : ℕ) (x : X) (o : Option A) (added : Bool)
-    → i < length items → x ≡ get_or items i x → o ≡ f x → Puts same table o new added → added ≡ true → Kept same f items table i → Kept same f items new (i + 1)
+    → i < length items → x ≡ get_or items i x → o ≡ f x → Puts same table o new added → added ≡ true
+    → Kept same f items table i → Kept same f items new (i + 1)
 kept_step same symmetric f items table new i x o true l e h puts test kept = kept_more same symmetric f items table new i x o l e h puts kept
 kept_step same symmetric f items table new i x o false l e h puts test kept = absurd (false≢true test)
 
 pub kept_again : {X A : Type 0} (same : A → A → Bool) (symmetric : (x y : A) → same x y ≡ same y x)
     (f : X → Option A) (items : List X) (table new : List A) (i : ℕ) (x : X) (o : Option A) (added : Bool)
-    → i < length items → x ≡ get_or items i x → o ≡ f x → Puts same table o new added → added ≡ false → Kept same f items table i → are_different same (filter_map f items) ≡ false
+    → i < length items → x ≡ get_or items i x → o ≡ f x → Puts same table o new added → added ≡ false
+    → Kept same f items table i → are_different same (filter_map f items) ≡ false
 kept_again same symmetric f items table new i x o true l e h puts test kept = absurd (false≢true (sym test))
 kept_again same symmetric f items table new i x o false l e h puts test kept = kept_twice same symmetric f items table new i x o l e h puts kept

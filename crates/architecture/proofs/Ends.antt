@@ -10,7 +10,8 @@ none_means n m true e h l = cc
 none_means n m false e h l = let past = ltb-false n m e in omega (arith, past, l)
 
 pub no_position : {X : Type 0} (p : X → Bool) (xs : List X) → position p xs ≡ None → length xs ≡ position_or_len p xs
-no_position p xs h = none_means (position_or_len p xs) (length xs) (ltb (position_or_len p xs) (length xs)) refl h (prefix_len-le-length (λ x. not (p x)) xs)
+no_position p xs h = none_means (position_or_len p xs) (length xs) (ltb (position_or_len p xs) (length xs)) refl h
+    (prefix_len-le-length (λ x. not (p x)) xs)
 
 some_means : (n k : ℕ) (b : Bool) → cond b (Some n) None ≡ Some k → k ≡ n
 some_means n k true h = cc

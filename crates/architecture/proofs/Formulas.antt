@@ -50,7 +50,8 @@ between_is binary.AtLeast f g = refl
 between_is binary.Until f g = refl
 between_is binary.Releases f g = refl
 
-pub between_joined : (word : BinaryWord) (c : Connective) (f g : Ltl) → Some c ≡ connective_of word → joined c f g ≡ between word f g
+pub between_joined : (word : BinaryWord) (c : Connective) (f g : Ltl) → Some c ≡ connective_of word
+    → joined c f g ≡ between word f g
 between_joined word c f g h = ap (λ (o : Option Connective). by_connective o f g) h ∙ between_is word f g
 
 pub between_other : (word : BinaryWord) (f g : Ltl) → None ≡ connective_of word → form.False ≡ between word f g

@@ -1,4 +1,5 @@
-use Rattle.std.proofs.Common.{◌≡◌, ℕ, zero, suc, ◌+◌, ◌<◌, ◌≤◌, Bool, true, false, not, cond, ◌&&◌, ◌||◌, nat_eq, List, [], ◌∷◌, ◌++◌, map, length, take, get_or, Option, Some, None, refl, sym, ap, subst, ◌∙◌, arith, append_assoc, if◌then◌else◌}
+use Rattle.std.proofs.Common.{◌≡◌, ℕ, zero, suc, ◌+◌, ◌<◌, ◌≤◌, Bool, true, false, not, cond, ◌&&◌, ◌||◌, nat_eq, List, [], ◌∷◌, ◌++◌, map, length, take}
+use Rattle.std.proofs.Common.{get_or, Option, Some, None, refl, sym, ap, subst, ◌∙◌, arith, append_assoc, if◌then◌else◌}
 use Rattle.std.proofs.lemmas.Bool.{false≢true}
 use Rattle.std.proofs.lemmas.List.{append-nil, take_more, length-take-le}
 use Rattle.std.proofs.lemmas.List.Folds.{list_any-append}
@@ -27,7 +28,8 @@ next_zero n = ap (λ (k : ℕ). nat_eq k 0) (next_is n) ∙ eqb-suc-zero n
 next_next : (n m : ℕ) → nat_eq (n + 1) (m + 1) ≡ nat_eq n m
 next_next n m = ap (λ (k : ℕ). nat_eq k (m + 1)) (next_is n) ∙ (ap (λ (k : ℕ). nat_eq (suc n) k) (next_is m) ∙ eqb-suc-suc n m)
 
-same_numbers : (a b : Option SubId) (m n : ℕ) → same_key (key (target a m)) (key (target b n)) ≡ same_target (target a m) (target b n)
+same_numbers : (a b : Option SubId) (m n : ℕ)
+    → same_key (key (target a m)) (key (target b n)) ≡ same_target (target a m) (target b n)
 same_numbers None None m n = refl
 same_numbers None (Some s) m n = ap (λ (b : Bool). b && nat_eq m n) (zero_next s.0)
 same_numbers (Some s) None m n = ap (λ (b : Bool). b && nat_eq m n) (next_zero s.0)
@@ -37,12 +39,14 @@ pub same_keys : (t u : Target) → same_key (key t) (key u) ≡ same_target t u
 same_keys t u = same_numbers t.sub u.sub t.port.0 u.port.0
 
 -- a target joins the table
-pub has_more : (keys new : List (ℕ × ℕ)) (t u : Target) → new ≡ insert_key same_key keys (key u) → has_key new t ≡ (same_target t u || has_key keys t)
+pub has_more : (keys new : List (ℕ × ℕ)) (t u : Target) → new ≡ insert_key same_key keys (key u)
+    → has_key new t ≡ (same_target t u || has_key keys t)
 has_more keys new t u h = ap (λ list. has_key list t) h ∙ by (has_key keys u) refl (same_target t u) refl where
   by : (b : Bool) → has_key keys u ≡ b → (s : Bool) → same_target t u ≡ s → has_key (if b then keys else keys ++ key u ∷ []) t ≡ (s || has_key keys t)
   by true f true s = ap (has_key keys) (same_target_is t u s) ∙ f
   by true f false s = refl
-  by false f s e = list_any-append (same_key (key t)) keys (key u ∷ []) ∙ (ap (λ b. has_key keys t || (b || false)) (same_keys t u ∙ e) ∙ turn (has_key keys t) s)
+  by false f s e = list_any-append (same_key (key t)) keys (key u ∷ [])
+      ∙ (ap (λ b. has_key keys t || (b || false)) (same_keys t u ∙ e) ∙ turn (has_key keys t) s)
     where
       turn : (a s : Bool) → (a || (s || false)) ≡ (s || a)
       turn true true = refl
@@ -60,8 +64,10 @@ turn_any false false = refl
 abbrev pub IsTable : List (ℕ × ℕ) → List Target → Type 0
 IsTable keys targets = (t : Target) → has_key keys t ≡ list_any (same_target t) targets
 
-pub table_more : (keys new : List (ℕ × ℕ)) (targets : List Target) (i : ℕ) (u : Target) → i < length targets → u ≡ get_or targets i u
-    → ((t : Target) → has_key new t ≡ (same_target t u || has_key keys t)) → IsTable keys (take i targets) → IsTable new (take (i + 1) targets)
+pub table_more : (keys new : List (ℕ × ℕ)) (targets : List Target) (i : ℕ) (u : Target) → i < length targets
+    → u ≡ get_or targets i u
+    → ((t : Target) → has_key new t ≡ (same_target t u || has_key keys t)) → IsTable keys (take i targets)
+    → IsTable new (take (i + 1) targets)
 table_more keys new targets i u within is added so t =
     added t
     ∙ (ap (λ b. same_target t u || b) (so t)
@@ -70,7 +76,8 @@ table_more keys new targets i u within is added so t =
     ∙ ap (list_any (same_target t)) (sym (take_more targets i u within ∙ ap (λ (w : Target). take i targets ++ w ∷ []) (sym is))))))
 
 -- one more port of a row
-pub row_more : (keys : List (ℕ × ℕ)) (old free new : List Target) (sub : Option SubId) (n : ℕ) (t : Target) → t ≡ target sub n
+pub row_more : (keys : List (ℕ × ℕ)) (old free new : List Target) (sub : Option SubId) (n : ℕ) (t : Target)
+    → t ≡ target sub n
     → new ≡ free ++ cond (lacks_key keys t) (t ∷ []) []
     → free ≡ old ++ filter (lacks_key keys) (row sub n) → new ≡ old ++ filter (lacks_key keys) (row sub (n + 1))
 row_more keys old free new sub n t is put so =
@@ -83,20 +90,25 @@ row_more keys old free new sub n t is put so =
 
 -- one more subcomponent
 
-rows_push : (k : ℕ) (counts : List ℕ) (count : ℕ) → rows k (counts ++ count ∷ []) ≡ rows k counts ++ row (Some (record { 0 = k + length counts })) count
+rows_push : (k : ℕ) (counts : List ℕ) (count : ℕ)
+    → rows k (counts ++ count ∷ []) ≡ rows k counts ++ row (Some (record { 0 = k + length counts })) count
 rows_push k [] count = append-nil (row (Some (record { 0 = k })) count) ∙ ap (λ (n : ℕ). row (Some (record { 0 = n })) count) (omega arith)
 rows_push k (c ∷ counts) count =
-    ap (λ list. row (Some (record { 0 = k })) c ++ list) (rows_push (k + 1) counts count ∙ ap (λ (n : ℕ). rows (k + 1) counts ++ row (Some (record { 0 = n })) count) (omega arith))
+    ap (λ list. row (Some (record { 0 = k })) c ++ list)
+    (rows_push (k + 1) counts count ∙ ap (λ (n : ℕ). rows (k + 1) counts ++ row (Some (record { 0 = n })) count) (omega arith))
     ∙ sym (append_assoc (row (Some (record { 0 = k })) c) (rows (k + 1) counts) (row (Some (record { 0 = k + suc (length counts) })) count))
 
-pub rows_more : (keys : List (ℕ × ℕ)) (old free new : List Target) (counts : List ℕ) (i count : ℕ) (sub : SubId) → i < length counts → count ≡ get_or counts i count → sub.0 ≡ i
-    → free ≡ old ++ filter (lacks_key keys) (rows 0 (take i counts)) → new ≡ free ++ filter (lacks_key keys) (row (Some sub) count)
+pub rows_more : (keys : List (ℕ × ℕ)) (old free new : List Target) (counts : List ℕ) (i count : ℕ) (sub : SubId)
+    → i < length counts → count ≡ get_or counts i count → sub.0 ≡ i
+    → free ≡ old ++ filter (lacks_key keys) (rows 0 (take i counts))
+    → new ≡ free ++ filter (lacks_key keys) (row (Some sub) count)
     → new ≡ old ++ filter (lacks_key keys) (rows 0 (take (i + 1) counts))
 rows_more keys old free new counts i count sub within is place so put =
     let some : row (Some (record { 0 = 0 + length (take i counts) })) count ≡ row (Some sub) count =
     ap (λ (n : ℕ). row (Some (record { 0 = n })) count) (omega (arith, length-take-le i counts (omega arith), place)) in
     let more : rows 0 (take (i + 1) counts) ≡ rows 0 (take i counts) ++ row (Some sub) count =
-    ap (rows 0) (take_more counts i count within ∙ ap (λ (n : ℕ). take i counts ++ n ∷ []) (sym is)) ∙ (rows_push 0 (take i counts) count ∙ ap (λ list. rows 0 (take i counts) ++ list) some) in
+    ap (rows 0) (take_more counts i count within ∙ ap (λ (n : ℕ). take i counts ++ n ∷ []) (sym is))
+    ∙ (rows_push 0 (take i counts) count ∙ ap (λ list. rows 0 (take i counts) ++ list) some) in
     put
     ∙ (ap (λ list. list ++ filter (lacks_key keys) (row (Some sub) count)) so
     ∙ (append_assoc old (filter (lacks_key keys) (rows 0 (take i counts))) (filter (lacks_key keys) (row (Some sub) count))
@@ -108,8 +120,10 @@ filter_same : (p q : Target → Bool) → ((t : Target) → p t ≡ q t) → (ts
 filter_same p q h [] = refl
 filter_same p q h (t ∷ ts) = ap (λ b. cond b (t ∷ filter p ts) (filter p ts)) (h t) ∙ ap (λ list. cond (q t) (t ∷ list) list) (filter_same p q h ts)
 
-pub all_free : (keys : List (ℕ × ℕ)) (connected : List Target) (own : ℕ) (counts : List ℕ) (first free : List Target) → IsTable keys connected
-    → first ≡ [] ++ filter (lacks_key keys) (row None own) → free ≡ first ++ filter (lacks_key keys) (rows 0 counts) → free ≡ free_among own counts connected
+pub all_free : (keys : List (ℕ × ℕ)) (connected : List Target) (own : ℕ) (counts : List ℕ) (first free : List Target)
+    → IsTable keys connected
+    → first ≡ [] ++ filter (lacks_key keys) (row None own) → free ≡ first ++ filter (lacks_key keys) (rows 0 counts)
+    → free ≡ free_among own counts connected
 all_free keys connected own counts first free table a b =
     b
     ∙ (ap (λ list. list ++ filter (lacks_key keys) (rows 0 counts)) a

@@ -1,4 +1,5 @@
-use Rattle.std.proofs.Common.{◌≡◌, ℕ, ◌<◌, Bool, true, false, not, ◌||◌, cond, List, [], ◌∷◌, length, find, slice_get, Option, Some, None, refl, sym, ap, ◌∙◌, bytes_eq, ◌⊎◌, inl, inr, ⊎_elim}
+use Rattle.std.proofs.Common.{◌≡◌, ℕ, ◌<◌, Bool, true, false, not, ◌||◌, cond, List, [], ◌∷◌, length, find, slice_get, Option, Some, None, refl, sym, ap}
+use Rattle.std.proofs.Common.{◌∙◌, bytes_eq, ◌⊎◌, inl, inr, ⊎_elim}
 use Rattle.std.proofs.lemmas.Bool.{false≢true, and_parts, or_cases, not-true, true_from_ne_false}
 use Rattle.std.proofs.lemmas.Option.{same_Some}
 use Rattle.std.proofs.lemmas.List.Folds.{find_at}
@@ -13,7 +14,8 @@ use Rattle.architecture.proofs.Different.{fewer-lack}
 
 -- Places of names.
 
-find_name_step : (b r : Bool) (x y : List ℕ) (rest : Option (List ℕ)) → (b ≡ true → x ≡ y) → (b || r) ≡ true → (r ≡ true → rest ≡ Some x) → cond b (Some y) rest ≡ Some x
+find_name_step : (b r : Bool) (x y : List ℕ) (rest : Option (List ℕ)) → (b ≡ true → x ≡ y) → (b || r) ≡ true
+    → (r ≡ true → rest ≡ Some x) → cond b (Some y) rest ≡ Some x
 find_name_step true r x y rest same h more = ap Some (sym (same refl))
 find_name_step false r x y rest same h more = more h
 
@@ -22,9 +24,11 @@ find_name [] x h = absurd (false≢true h)
 find_name (y ∷ ys) x h = find_name_step (bytes_eq x y) (has ys x) x y (find (bytes_eq x) ys) (bytes_eq-Decides x y).0 h (find_name ys x)
 
 -- two names at one place are one
-pub same_place : (names : List (List ℕ)) (x y : List ℕ) → has names x ≡ true → has names y ≡ true → place_of names x ≡ place_of names y → x ≡ y
+pub same_place : (names : List (List ℕ)) (x y : List ℕ) → has names x ≡ true → has names y ≡ true
+    → place_of names x ≡ place_of names y → x ≡ y
 same_place names x y hx hy e =
-    same_Some x y (sym (find_name names x hx) ∙ (find_at (bytes_eq x) names ∙ (ap (slice_get names) e ∙ (sym (find_at (bytes_eq y) names) ∙ find_name names y hy))))
+    same_Some x y (sym (find_name names x hx) ∙ (find_at (bytes_eq x) names
+    ∙ (ap (slice_get names) e ∙ (sym (find_at (bytes_eq y) names) ∙ find_name names y hy))))
 
 -- ports are inputs or outputs
 
@@ -48,7 +52,8 @@ again : (x y : List ℕ) (names : List (List ℕ)) → bytes_eq x y ≡ true →
 again x y names e h = sym (ap (has names) ((bytes_eq-Decides x y).0 e)) ∙ h
 
 -- no port is both, where ports have different names
-pub both_ways : (items : List InterfaceItem) (x : List ℕ) → are_different bytes_eq (ports items) ≡ true → has (inputs items) x ≡ true → has (outputs items) x ≡ true → ⊥
+pub both_ways : (items : List InterfaceItem) (x : List ℕ) → are_different bytes_eq (ports items) ≡ true
+    → has (inputs items) x ≡ true → has (outputs items) x ≡ true → ⊥
 both_ways [] x differ i o = false≢true i
 both_ways (interface.Port true name kind ∷ items) x differ i o =
     let parts = and_parts (not (has (ports items) name.text)) (are_different bytes_eq (ports items)) differ in

@@ -46,7 +46,8 @@ plain_truth : (n : ℕ) (b : Bool) → Plain n (truth b)
 plain_truth n true = record { propositional = tt; reads = tt }
 plain_truth n false = record { propositional = tt; reads = tt }
 
-plain_between : (n : ℕ) (word : BinaryWord) (f g : Ltl) → is_connective word ≡ true → Plain n f → Plain n g → Plain n (between word f g)
+plain_between : (n : ℕ) (word : BinaryWord) (f g : Ltl) → is_connective word ≡ true → Plain n f → Plain n g
+    → Plain n (between word f g)
 plain_between n binary.And f g h p q = record { propositional = (p.propositional, q.propositional); reads = (p.reads, q.reads) }
 plain_between n binary.Or f g h p q = record { propositional = (p.propositional, q.propositional); reads = (p.reads, q.reads) }
 plain_between n binary.Implies f g h p q = record { propositional = (p.propositional, q.propositional); reads = (p.reads, q.reads) }
@@ -83,7 +84,8 @@ plain_formula n own of_sub f g a b (Prefix prefix.Then operand span) h = absurd 
 plain_formula n own of_sub f g a b (Binary word left right span) h =
     let whole = and_parts (is_connective word && is_plain own of_sub left) (is_plain own of_sub right) h in
     let front = and_parts (is_connective word) (is_plain own of_sub left) whole.0 in
-    plain_between n word (formula_of f g left) (formula_of f g right) front.0 (plain_formula n own of_sub f g a b left front.1) (plain_formula n own of_sub f g a b right whole.1)
+    plain_between n word (formula_of f g left) (formula_of f g right) front.0 (plain_formula n own of_sub f g a b left front.1)
+    (plain_formula n own of_sub f g a b right whole.1)
 
 -- sources
 

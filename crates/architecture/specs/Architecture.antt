@@ -1,7 +1,8 @@
 -- What a specification describes: components with ports, contracts, subcomponents and connections
 -- (Cimatti and Tonetta, Contracts-refinement proof system for component-based embedded systems, 2015).
 -- A component that does not exist has no ports, contracts, subcomponents or connections.
-use Rattle.std.specs.Prelude.{◌≡◌, ℕ, ◌<◌, Bool, true, false, ◌&&◌, List, [], ◌∷◌, ◌++◌, length, map, filter, Option, Some, None, option_map, nat_eq, slice_get, find}
+use Rattle.std.specs.Prelude.{◌≡◌, ℕ, ◌<◌, Bool, true, false, ◌&&◌, List, [], ◌∷◌, ◌++◌, length, map, filter}
+use Rattle.std.specs.Prelude.{Option, Some, None, option_map, nat_eq, slice_get, find}
 use Rattle.std.specs.Option.{option_map_or, is_none}
 use Rattle.std.specs.List.{flat_map, range_with_len, position_or_len}
 use Rattle.oss_base.specs.declared.ids.ComponentId.{ComponentId}

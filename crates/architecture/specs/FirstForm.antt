@@ -4,7 +4,9 @@
 -- refinement of temporal contracts, 2013).
 --
 -- Where a name stands twice, the first counts for every reference.
-use Rattle.std.specs.Prelude.{ℕ, ◌+◌, ◌≤◌, Bool, true, false, not, ◌&&◌, List, [], ◌∷◌, ◌++◌, length, map, filter, filter_map, find, sum_by, Option, Some, None, is_some, is_none, IsTrue, option_map, bytes_eq, nat_le}
+use Rattle.std.specs.Prelude.{ℕ, ◌+◌, ◌≤◌, Bool, true, false, not, ◌&&◌, List, [], ◌∷◌, ◌++◌, length, map, filter}
+use Rattle.std.specs.Prelude.{filter_map, find, sum_by, Option, Some, None, is_some, is_none, IsTrue, option_map}
+use Rattle.std.specs.Prelude.{bytes_eq, nat_le}
 use Rattle.std.specs.Option.{option_map_or}
 use Rattle.std.specs.List.{list_all, list_any}
 use Rattle.oss_base.specs.Limits.{most_components, most_instances, most_parts}
@@ -282,7 +284,8 @@ pub record AreItems (own : Declared) (of_sub : List ℕ → Declared) (items : L
 
 -- The refinement of the system, of which these are the items: no two subcomponents have one name, each
 -- is of a component that exists and is not the system, and they are few.
-pub record IsFirstFormRefinement (components : List TreeComponent) (system : TreeComponent) (items : List RefinementItem) : Type
+pub record IsFirstFormRefinement (components : List TreeComponent) (system : TreeComponent)
+    (items : List RefinementItem) : Type
     0 where
   pub subs_differ : IsTrue (are_different bytes_eq (sub_names items))
   pub few_instances : instance_count items ≤ most_instances

@@ -1,5 +1,6 @@
 -- Lists of names, each of which is the list of its bytes.
-use Rattle.std.specs.Prelude.{◌≡◌, ℕ, Bool, true, false, not, ◌&&◌, List, [], ◌∷◌, ◌++◌, Option, Some, None, bytes_eq, String, string_bytes}
+use Rattle.std.specs.Prelude.{◌≡◌, ℕ, Bool, true, false, not, ◌&&◌, List, [], ◌∷◌, ◌++◌, Option, Some, None}
+use Rattle.std.specs.Prelude.{bytes_eq, String, string_bytes}
 use Rattle.std.specs.List.{list_any}
 
 -- the name is one of these

@@ -1,5 +1,6 @@
 -- Serves proofs only: what the tables of names tell, from which a specification is made.
-use Rattle.std.specs.Prelude.{◌≡◌, ℕ, ◌+◌, Bool, not, cond, nat_eq, ◌&&◌, List, [], ◌∷◌, ◌++◌, length, map, filter_map, slice_get, Option, Some, None, option_map, take}
+use Rattle.std.specs.Prelude.{◌≡◌, ℕ, ◌+◌, Bool, not, cond, nat_eq, ◌&&◌, List, [], ◌∷◌, ◌++◌, length, map}
+use Rattle.std.specs.Prelude.{filter_map, slice_get, Option, Some, None, option_map, take}
 use Rattle.std.specs.List.{position_or_len, list_any, range_with_len, filter}
 use Rattle.std.specs.Option.{option_map_or}
 use Rattle.oss_base.specs.declared.ids.SubId.{SubId}
@@ -34,7 +35,9 @@ use Rattle.architecture.specs.Architecture.{target, same_target, port_at}
 use Rattle.architecture.specs.declared.spec.Spec.{Spec}
 use Rattle.architecture.specs.declared.port.OwnPort.{OwnPort}
 use Rattle.architecture.specs.declared.port.FreePort.{FreePort}
-use Rattle.architecture.specs.Stands.{place_of, own_target, sub_target, target_of, part_of, KeptContract, kept_formula, Kept, kept, KeptWire, own_port, own_contract, own_sub, own_wire, of_contract, of_wire}
+use Rattle.architecture.specs.Stands.{place_of, own_target, sub_target, target_of, part_of, KeptContract}
+use Rattle.architecture.specs.Stands.{kept_formula, Kept, kept, KeptWire, own_port, own_contract, own_sub}
+use Rattle.architecture.specs.Stands.{own_wire, of_contract, of_wire}
 use Rattle.architecture.specs.FirstForm.{declared_by, refinement_items, ports as ports_in}
 use Rattle.architecture.specs.Tables.{declared_in}
 
@@ -201,7 +204,8 @@ AreWires own tables subs items wires =
     (own_wire own tables.names (declared_in tables) (place_among (free_in own tables subs items))) items
 
 -- The system is made, where these are the names of all components.
-pub record IsMadeSystem (names : List (List ℕ)) (own : Declared) (tables : SubTables) (c : TreeComponent) (made : Component)
+pub record IsMadeSystem (names : List (List ℕ)) (own : Declared) (tables : SubTables) (c : TreeComponent)
+    (made : Component)
     : Type 0 where
   pub interface : IsMade c made
   pub subs : made.subs ≡ filter_map (own_sub names) (refinement_items c)

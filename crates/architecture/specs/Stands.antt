@@ -2,7 +2,8 @@
 -- Cimatti, Dorigatti and Tonetta, OCRA: a tool for checking the refinement of temporal contracts, 2013).
 -- Every name stands for the place of the first thing of that name, and for the place past the end where
 -- there is none. So this says something of every tree, but it is asked for those of the first form alone.
-use Rattle.std.specs.Prelude.{◌≡◌, ℕ, ◌+◌, Bool, true, false, cond, nat_eq, List, [], ◌∷◌, ◌++◌, length, map, filter_map, Option, Some, None, take, bytes_eq}
+use Rattle.std.specs.Prelude.{◌≡◌, ℕ, ◌+◌, Bool, true, false, cond, nat_eq, List, [], ◌∷◌, ◌++◌, length, map}
+use Rattle.std.specs.Prelude.{filter_map, Option, Some, None, take, bytes_eq}
 use Rattle.std.specs.List.{position_or_len}
 use Rattle.oss_base.specs.declared.ids.ComponentId.{ComponentId}
 use Rattle.oss_base.specs.declared.ids.ContractId.{ContractId}
@@ -44,7 +45,8 @@ use Rattle.architecture.specs.declared.wire.Source.{Source}
 use Rattle.architecture.specs.declared.wire.Source.TheVariants as source
 use Rattle.architecture.specs.Architecture.{free_place, target}
 use Rattle.architecture.specs.declared.first_form_interfaces.Declared.{Declared}
-use Rattle.architecture.specs.FirstForm.{ports as ports_in, refinement_items, sub_names, component_names, declared_by, declared_by_sub, FirstForm}
+use Rattle.architecture.specs.FirstForm.{ports as ports_in, refinement_items, sub_names, component_names}
+use Rattle.architecture.specs.FirstForm.{declared_by, declared_by_sub, FirstForm}
 
 -- names
 

@@ -1,5 +1,6 @@
 -- Serves proofs only: what the tables of names hold.
-use Rattle.std.specs.Prelude.{◌≡◌, ℕ, ◌≤◌, ◌-◌, length, SomeIff, Bool, true, false, List, [], map, filter_map, Option, Some, None, option_and_then, unwrap_or, slice_get, position, bytes_eq, Vec}
+use Rattle.std.specs.Prelude.{◌≡◌, ℕ, ◌≤◌, ◌-◌, length, SomeIff, Bool, true, false, List, [], map, filter_map}
+use Rattle.std.specs.Prelude.{Option, Some, None, option_and_then, unwrap_or, slice_get, position, bytes_eq, Vec}
 use Rattle.std.specs.List.{list_all}
 use Rattle.oss_syntax.specs.declared.interface.InterfaceItem.{InterfaceItem}
 use Rattle.oss_syntax.specs.declared.component.TreeComponent.{TreeComponent}

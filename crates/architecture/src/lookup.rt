@@ -2,7 +2,9 @@
 
 ghost use Rattle.std.specs.Prelude.{◌≡◌, slice_get};
 ghost use Rattle.std.specs.Option.{option_copied};
-ghost use Rattle.architecture.specs.Architecture.{ports_of as ports_by, contracts_of as contracts_by, subs_of as subs_by, wires_of as wires_by, sub_component as component_by};
+ghost use Rattle.architecture.specs.Architecture.{ports_of as ports_by, contracts_of as contracts_by};
+ghost use Rattle.architecture.specs.Architecture.{subs_of as subs_by, wires_of as wires_by};
+ghost use Rattle.architecture.specs.Architecture.{sub_component as component_by};
 
 use crate::contract::Contract;
 use crate::port::OwnPort;

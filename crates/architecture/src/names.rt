@@ -1,6 +1,7 @@
 //! Tables of names, and of pairs of names, that tell whether one stood before.
 
-ghost use Rattle.std.specs.Prelude.{◌≡◌, [], OnErr, IfOk, MatchOption, bytes_eq, position, length, slice_get, Some, None, option_copied};
+ghost use Rattle.std.specs.Prelude.{◌≡◌, [], OnErr, IfOk, MatchOption, bytes_eq, position, length, slice_get, Some};
+ghost use Rattle.std.specs.Prelude.{None, option_copied};
 ghost use Rattle.architecture.specs.Names.{has, has_pair, same_pair, Puts};
 
 use indexmap::IndexSet;

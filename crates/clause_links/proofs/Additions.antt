@@ -1,5 +1,6 @@
 -- The lists after clauses or variables come in.
-use Rattle.std.proofs.Common.{◌≡◌, ◌≢◌, ◌<◌, ◌≤◌, ◌+◌, ◌-◌, ◌⊎◌, ◌↔◌, ℕ, Bool, true, false, List, [], ◌∷◌, ◌++◌, length, map, take, replicate, get_or, Option, Some, None, refl, sym, ◌∙◌, ap, subst, inl, inr, arith, length-append}
+use Rattle.std.proofs.Common.{◌≡◌, ◌≢◌, ◌<◌, ◌≤◌, ◌+◌, ◌-◌, ◌⊎◌, ◌↔◌, ℕ, Bool, true, false, List, [], ◌∷◌, ◌++◌, length, map, take, replicate, get_or}
+use Rattle.std.proofs.Common.{Option, Some, None, refl, sym, ◌∙◌, ap, subst, inl, inr, arith, length-append}
 use Rattle.std.specs.List.{All, Contains, slice_get}
 use Rattle.std.proofs.lemmas.Bool.{cases_eq, cases_lt}
 use Rattle.std.proofs.lemmas.List.{get_or_append_left, get_or_push, get_or-append_right, get_or_past, get_or-replicate, length-replicate, take_all, map_push}
@@ -9,7 +10,8 @@ use Rattle.clause_links.specs.declared.records.Record.{Record}
 use Rattle.clause_links.specs.declared.records.Watch.{Watch}
 use Rattle.clause_links.specs.declared.records.Heads.{Heads}
 use Rattle.clause_links.specs.WatchLists.{IsWatchedFirst, watchers}
-use Rattle.clause_links.specs.Records.{no_record, no_heads, record_at, IsWatchedBy, link_of, link_at, head_of, head_at, with_list_head, GoesThrough, linked_list, pair_of, watch_lists, IsWatcher, IsRecord, IsListOfWatchers, AreLinked}
+use Rattle.clause_links.specs.Records.{no_record, no_heads, record_at, IsWatchedBy, link_of, link_at, head_of, head_at, with_list_head, GoesThrough}
+use Rattle.clause_links.specs.Records.{linked_list, pair_of, watch_lists, IsWatcher, IsRecord, IsListOfWatchers, AreLinked}
 use Rattle.clause_links.proofs.Members.{no_member, has_head, has_tail, has_cases}
 use Rattle.clause_links.proofs.Walks.{same_way}
 use Rattle.clause_links.proofs.Watches.{lit_cases, link_first, link_second}
@@ -115,16 +117,19 @@ IsAddedTo-from_added records heads lits a b r is =
             (head-with_list_head_other middle b (Some n) a known_middle is.apart ∙ head-with_list_head heads a (Some n) known_a)
         | inr e ↦ subst (λ (l : Lit). head_at (with_list_head middle b (Some n)) l ≡ Some n) e (head-with_list_head middle b (Some n) known_middle)
       ];
-      other_heads = λ lit na nb. head-with_list_head_other middle b (Some n) lit known_middle nb ∙ head-with_list_head_other heads a (Some n) lit known_a na;
+      other_heads = λ lit na nb. head-with_list_head_other middle b (Some n) lit known_middle nb ∙ head-with_list_head_other heads a
+          (Some n) lit known_a na;
     }
 
-listed_below : (records : List Record) (lit : Lit) (head : Option ℕ) (xs : List ℕ) → IsListOfWatchers records lit head xs
+listed_below : (records : List Record) (lit : Lit) (head : Option ℕ) (xs : List ℕ)
+    → IsListOfWatchers records lit head xs
     → (x : ℕ) → Contains xs x → x < length records
 listed_below records lit head xs listed x m = ((listed.members x).0 m).within
 
 listed_watched : (records newer : List Record) (heads newer_heads : List Heads) (a b lit : Lit) (xs : List ℕ)
     → IsAddedTo records newer heads newer_heads a b → (a ≡ lit) ⊎ (b ≡ lit)
-    → IsListOfWatchers records lit (head_at heads lit) xs → IsListOfWatchers newer lit (head_at newer_heads lit) (length records ∷ xs)
+    → IsListOfWatchers records lit (head_at heads lit) xs
+    → IsListOfWatchers newer lit (head_at newer_heads lit) (length records ∷ xs)
 listed_watched records newer heads newer_heads a b lit xs is watched listed =
     let n : ℕ = length records in
     let low : (x : ℕ) → Contains xs x → x < n = listed_below records lit (head_at heads lit) xs listed in
@@ -173,9 +178,14 @@ added_lists : (records newer : List Record) (heads newer_heads : List Heads) (a 
 added_lists records newer heads newer_heads a b linked is =
     linked_from newer newer_heads (subst (λ (n : ℕ). All (IsRecord n) newer) (sym is.vars) is.each)
     (λ lit h.
-    let listed : IsListOfWatchers records lit (head_at heads lit) (linked_list records heads lit) = linked.lists lit (subst (λ (n : ℕ). lit.var < n) is.vars h) in
+    let listed : IsListOfWatchers records lit (head_at heads lit) (linked_list records heads lit) = linked.lists lit
+    (subst (λ (n : ℕ). lit.var < n) is.vars h) in
     elim (lit_cases a lit) [
-      | inl e ↦ (length records ∷ linked_list records heads lit, listed_watched records newer heads newer_heads a b lit (linked_list records heads lit) is (inl e) listed)
+      | inl e ↦ (
+        length records ∷ linked_list records heads lit,
+        listed_watched records newer heads newer_heads a b lit
+            (linked_list records heads lit) is (inl e) listed,
+      )
       | inr na ↦ elim (lit_cases b lit) [
         | inl e ↦ (
           length records ∷ linked_list records heads lit,

@@ -1,5 +1,6 @@
 -- What the calls answer and leave, by the lists that contracts see.
-use Rattle.std.proofs.Common.{◌≡◌, ◌≢◌, ◌<◌, ◌≤◌, ◌+◌, ◌⊎◌, ◌↔◌, ℕ, List, [], ◌∷◌, ◌++◌, length, map, get_or, take, drop, set, Option, Some, None, refl, sym, ◌∙◌, ap, subst, inl, inr, arith}
+use Rattle.std.proofs.Common.{◌≡◌, ◌≢◌, ◌<◌, ◌≤◌, ◌+◌, ◌⊎◌, ◌↔◌, ℕ, List, [], ◌∷◌, ◌++◌, length, map, get_or, take, drop, set, Option, Some, None, refl}
+use Rattle.std.proofs.Common.{sym, ◌∙◌, ap, subst, inl, inr, arith}
 use Rattle.std.specs.List.{All, Contains, slice_get}
 use Rattle.std.proofs.lemmas.Bool.{cases_lt}
 use Rattle.std.proofs.lemmas.List.{get_or-map, get_or_past, append-nil, take_all, drop_all, ext_get_or, length-map}
@@ -10,11 +11,14 @@ use Rattle.cnf.specs.declared.lit.Lit.{Lit}
 use Rattle.clause_links.specs.declared.records.Record.{Record}
 use Rattle.clause_links.specs.declared.records.Heads.{Heads}
 use Rattle.clause_links.specs.WatchLists.{WatchLists, WatchesBoth, Watches, watchers, clause_lits, Precedes, IsRewatched}
-use Rattle.clause_links.specs.Records.{no_record, no_heads, record_at, IsWatchedBy, link_of, link_at, head_of, head_at, GoesThrough, linked_list, pair_of, watch_lists, IsWatcher, IsRecord, IsListOfWatchers, AreLinked, records_after, heads_after, with_list_head, nth_lit, with_two_heads}
+use Rattle.clause_links.specs.Records.{no_record, no_heads, record_at, IsWatchedBy, link_of, link_at, head_of, head_at, GoesThrough, linked_list, pair_of}
+use Rattle.clause_links.specs.Records.{watch_lists, IsWatcher, IsRecord, IsListOfWatchers, AreLinked, records_after, heads_after, with_list_head, nth_lit}
+use Rattle.clause_links.specs.Records.{with_two_heads}
 use Rattle.clause_links.proofs.Members.{Cut, cut_at, no_member, has_head, has_middle, first_or_none, ends_with}
 use Rattle.clause_links.proofs.Walks.{first_is, way_on, one_cut}
 use Rattle.clause_links.proofs.HeadLaws.{no_head, length-with_list_head}
-use Rattle.clause_links.proofs.Listing.{watchers_are, watchers_from, no_watchers, watcher_from, watches_from, pair_from, pairs_at, pairs_from, known_of, clause_is, members_of}
+use Rattle.clause_links.proofs.Listing.{watchers_are, watchers_from, no_watchers, watcher_from, watches_from, pair_from, pairs_at, pairs_from, known_of}
+use Rattle.clause_links.proofs.Listing.{clause_is, members_of}
 use Rattle.clause_links.proofs.Moves.{CanMove, IsMoved, IsPair, Lists, known_to, IsMoved-from_can, moved_lists}
 
 -- a slice that was written as a whole
@@ -201,7 +205,9 @@ move_of records heads before clause from to front back can =
 
 -- ---- a new clause
 
-pub length-with_two_heads : (heads : List Heads) (lits : List Lit) (clause : ℕ) → length (with_two_heads heads lits clause)
+pub length-with_two_heads : (heads : List Heads) (lits : List Lit) (clause : ℕ)
+    → length (with_two_heads heads lits clause)
     ≡ length heads
 length-with_two_heads heads lits clause =
-    length-with_list_head (with_list_head heads (nth_lit lits 0) (Some clause)) (nth_lit lits 1) (Some clause) ∙ length-with_list_head heads (nth_lit lits 0) (Some clause)
+    length-with_list_head (with_list_head heads (nth_lit lits 0) (Some clause)) (nth_lit lits 1) (Some clause) ∙ length-with_list_head heads
+    (nth_lit lits 0) (Some clause)

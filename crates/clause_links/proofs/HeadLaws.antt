@@ -1,5 +1,6 @@
 -- The heads of the lists, before and after a change of one.
-use Rattle.std.proofs.Common.{◌≡◌, ◌≢◌, ◌<◌, ◌+◌, ◌⊎◌, ℕ, Bool, true, false, List, [], ◌∷◌, length, get_or, set, Option, Some, None, refl, sym, ◌∙◌, ap, subst, inl, inr, arith, length-set}
+use Rattle.std.proofs.Common.{◌≡◌, ◌≢◌, ◌<◌, ◌+◌, ◌⊎◌, ℕ, Bool, true, false, List, [], ◌∷◌, length, get_or, set, Option, Some, None, refl, sym, ◌∙◌, ap}
+use Rattle.std.proofs.Common.{subst, inl, inr, arith, length-set}
 use Rattle.std.proofs.lemmas.Bool.{cases_eq}
 use Rattle.std.proofs.lemmas.List.{get_or-set_same, get_or-set_other}
 use Rattle.cnf.specs.declared.lit.Lit.{Lit}
@@ -38,7 +39,8 @@ head-with_list_head_other heads lit x other within unlike =
       | inr n ↦ ap (λ (h : Heads). head_of h other.positive) (get_or-set_other heads lit.var other.var new no_heads (λ q. n (sym q)))
     ]
 
-pub length-with_list_head : (heads : List Heads) (lit : Lit) (x : Option ℕ) → length (with_list_head heads lit x) ≡ length heads
+pub length-with_list_head : (heads : List Heads) (lit : Lit) (x : Option ℕ)
+    → length (with_list_head heads lit x) ≡ length heads
 length-with_list_head heads lit x = length-set heads lit.var (with_head (get_or heads lit.var no_heads) lit.positive x)
 
 pub no_head : (sign : Bool) → head_of no_heads sign ≡ None

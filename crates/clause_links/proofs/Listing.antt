@@ -1,5 +1,6 @@
 -- The lists that contracts see are those that the links go through.
-use Rattle.std.proofs.Common.{◌≡◌, ◌≢◌, ◌<◌, ◌≤◌, ◌+◌, ◌⊎◌, ◌↔◌, ℕ, zero, suc, Bool, true, false, List, [], ◌∷◌, ◌++◌, length, map, get_or, Option, Some, None, refl, sym, ◌∙◌, ap, subst, inl, inr, arith}
+use Rattle.std.proofs.Common.{◌≡◌, ◌≢◌, ◌<◌, ◌≤◌, ◌+◌, ◌⊎◌, ◌↔◌, ℕ, zero, suc, Bool, true, false, List, [], ◌∷◌, ◌++◌, length, map, get_or, Option, Some}
+use Rattle.std.proofs.Common.{None, refl, sym, ◌∙◌, ap, subst, inl, inr, arith}
 use Rattle.std.specs.Prelude.{nat_eq, if◌then◌else◌}
 use Rattle.std.specs.List.{All, Contains, IsDistinct, slice_get, list_any}
 use Rattle.std.proofs.lemmas.Bool.{cases_lt, eqb-true}
@@ -12,12 +13,14 @@ use Rattle.cnf.specs.declared.lit.Lit.{Lit}
 use Rattle.clause_links.specs.declared.records.Record.{Record}
 use Rattle.clause_links.specs.declared.records.Heads.{Heads}
 use Rattle.clause_links.specs.WatchLists.{WatchLists, WatchesBoth, Watches, watchers, clause_lits, AreExact}
-use Rattle.clause_links.specs.Records.{no_record, record_at, IsWatchedBy, link_at, head_at, walk, GoesThrough, linked_list, lists_from, pair_of, watch_lists, IsWatcher, IsRecord, IsListOfWatchers, AreLinked}
+use Rattle.clause_links.specs.Records.{no_record, record_at, IsWatchedBy, link_at, head_at, walk, GoesThrough, linked_list, lists_from, pair_of}
+use Rattle.clause_links.specs.Records.{watch_lists, IsWatcher, IsRecord, IsListOfWatchers, AreLinked}
 use Rattle.clause_links.proofs.Members.{no_member}
 use Rattle.clause_links.proofs.Walks.{goes_once, walk_whole, first_is}
 
 -- a list that the links go through, and that has the watchers, is the one that is walked
-pub linked_list_is : (records : List Record) (lit : Lit) (head : Option ℕ) (xs : List ℕ) → IsListOfWatchers records lit head xs
+pub linked_list_is : (records : List Record) (lit : Lit) (head : Option ℕ) (xs : List ℕ)
+    → IsListOfWatchers records lit head xs
     → walk (link_at records lit) (length records) head ≡ xs
 linked_list_is records lit head xs listed =
     walk_whole (link_at records lit) (length records) head xs listed.linked
@@ -32,7 +35,8 @@ linked_from records heads each listed = record {
   each = each;
   lists = λ lit within.
       let found : (xs : List ℕ) × IsListOfWatchers records lit (head_at heads lit) xs = listed lit within in
-      subst (λ (xs : List ℕ). IsListOfWatchers records lit (head_at heads lit) xs) (sym (linked_list_is records lit (head_at heads lit) found.0 found.1)) found.1;
+      subst (λ (xs : List ℕ). IsListOfWatchers records lit (head_at heads lit) xs)
+      (sym (linked_list_is records lit (head_at heads lit) found.0 found.1)) found.1;
 }
 
 -- ---- the list of a literal

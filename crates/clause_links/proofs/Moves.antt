@@ -1,5 +1,6 @@
 -- The lists after a clause watches another literal.
-use Rattle.std.proofs.Common.{◌≡◌, ◌≢◌, ◌<◌, ◌≤◌, ◌+◌, ◌⊎◌, ◌↔◌, ℕ, List, [], ◌∷◌, ◌++◌, length, map, get_or, set, Option, Some, None, refl, sym, ◌∙◌, ap, subst, inl, inr, arith, length-set}
+use Rattle.std.proofs.Common.{◌≡◌, ◌≢◌, ◌<◌, ◌≤◌, ◌+◌, ◌⊎◌, ◌↔◌, ℕ, List, [], ◌∷◌, ◌++◌, length, map, get_or, set, Option, Some, None, refl, sym, ◌∙◌, ap}
+use Rattle.std.proofs.Common.{subst, inl, inr, arith, length-set}
 use Rattle.std.specs.List.{All, Contains, slice_get}
 use Rattle.std.proofs.lemmas.Bool.{cases_eq}
 use Rattle.std.proofs.lemmas.List.{get_or-set_same, get_or-set_other}
@@ -8,10 +9,13 @@ use Rattle.cnf.specs.declared.lit.Lit.{Lit}
 use Rattle.clause_links.specs.declared.records.Record.{Record}
 use Rattle.clause_links.specs.declared.records.Heads.{Heads}
 use Rattle.clause_links.specs.WatchLists.{last_member}
-use Rattle.clause_links.specs.Records.{no_record, record_at, IsWatchedBy, link_of, link_at, with_watch, head_at, with_list_head, GoesThrough, linked_list, pair_of, IsWatcher, IsRecord, IsListOfWatchers, AreLinked, unlinked_records, unlinked_heads, moved_records, records_after, heads_after}
+use Rattle.clause_links.specs.Records.{no_record, record_at, IsWatchedBy, link_of, link_at, with_watch, head_at, with_list_head, GoesThrough, linked_list}
+use Rattle.clause_links.specs.Records.{pair_of, IsWatcher, IsRecord, IsListOfWatchers, AreLinked, unlinked_records, unlinked_heads, moved_records}
+use Rattle.clause_links.specs.Records.{records_after, heads_after}
 use Rattle.clause_links.proofs.Members.{has_head, has_tail, has_cases, has_beside, beside_cases}
 use Rattle.clause_links.proofs.Walks.{same_way, stands_once}
-use Rattle.clause_links.proofs.Watches.{lit_cases, link-with_watch, link-with_watch_other, clause-with_watch, pair-with_watch, watched-with_watch, with_watch_cases, still_watched, IsRecord-with_watch}
+use Rattle.clause_links.proofs.Watches.{lit_cases, link-with_watch, link-with_watch_other, clause-with_watch, pair-with_watch, watched-with_watch}
+use Rattle.clause_links.proofs.Watches.{with_watch_cases, still_watched, IsRecord-with_watch}
 use Rattle.clause_links.proofs.HeadLaws.{head-with_list_head, head-with_list_head_other, length-with_list_head}
 use Rattle.clause_links.proofs.Listing.{known_of, linked_from}
 use Rattle.clause_links.proofs.Unlinking.{at_set, IsUnlinked, IsUnlinked-from_cut}
@@ -123,7 +127,8 @@ IsMoved-from_unlinked records older heads older_heads clause from to rest good w
         watched = subst (λ (r : Record). IsWatchedBy r lit) (sym here)
             (still_watched old from to next lit watched n (watched_same (record_at records clause) old lit (sym (u.pairs clause)) w.watched));
       };
-      way = subst (λ (o : Option ℕ). GoesThrough (link_at newer from) o rest) (sym (head-with_list_head_other older_heads to (Some clause) from known unlike))
+      way = subst (λ (o : Option ℕ). GoesThrough (link_at newer from) o rest)
+          (sym (head-with_list_head_other older_heads to (Some clause) from known unlike))
           (same_way (link_at older from) (link_at newer from) (head_at older_heads from) rest
           (λ x m. ap (λ (r : Record). link_of r from) (elsewhere x (λ e. absent (subst (λ (y : ℕ). Contains rest y) e m)))) u.way);
       head = head-with_list_head older_heads to (Some clause) known;
@@ -145,7 +150,8 @@ IsMoved-from_can records heads before clause from to front back can =
     let within : from.var < length heads = known_of (length heads) records from clause can.linked.each can.watcher in
     let way : GoesThrough (link_at records from) (head_at heads from) (front ++ clause ∷ back) =
     subst (λ (l : List ℕ). GoesThrough (link_at records from) (head_at heads from) l) can.cut (can.linked.lists from within).linked in
-    IsMoved-from_unlinked records (unlinked_records records before from (link_at records from clause)) heads (unlinked_heads heads before from (link_at records from clause))
+    IsMoved-from_unlinked records (unlinked_records records before from (link_at records from clause)) heads
+    (unlinked_heads heads before from (link_at records from clause))
     clause from to (front ++ back)
     (can.linked.each clause no_record can.watcher.within) can.watcher can.unwatched can.own
     (stands_once (link_at records from) (head_at heads from) front clause back way)
@@ -156,7 +162,8 @@ IsMoved-from_can records heads before clause from to front back can =
 listed_to : (records newer : List Record) (heads newer_heads : List Heads) (clause : ℕ) (from to : Lit)
     (rest xs : List ℕ)
     → IsMoved records newer heads newer_heads clause from to rest → (IsWatcher records to clause → ⊥)
-    → IsListOfWatchers records to (head_at heads to) xs → IsListOfWatchers newer to (head_at newer_heads to) (clause ∷ xs)
+    → IsListOfWatchers records to (head_at heads to) xs
+    → IsListOfWatchers newer to (head_at newer_heads to) (clause ∷ xs)
 listed_to records newer heads newer_heads clause from to rest xs is unwatched listed =
     let apart : (x : ℕ) → Contains xs x → x ≢ clause =
     λ x m e. unwatched (subst (λ (y : ℕ). IsWatcher records to y) e ((listed.members x).0 m)) in
@@ -281,7 +288,8 @@ moved_linked records heads before clause from to front back can =
     let lists : Lists records newer heads newer_heads clause from to front back = moved_lists records heads before clause from to front back can in
     linked_from newer newer_heads (subst (λ (n : ℕ). All (IsRecord n) newer) (sym is.vars) is.each)
     (λ lit h. elim (lit_cases lit to) [
-      | inl e ↦ subst (λ (l : Lit). (xs : List ℕ) × IsListOfWatchers newer l (head_at newer_heads l) xs) (sym e) (clause ∷ linked_list records heads to, lists.of_to)
+      | inl e ↦ subst (λ (l : Lit). (xs : List ℕ) × IsListOfWatchers newer l (head_at newer_heads l) xs) (sym e)
+          (clause ∷ linked_list records heads to, lists.of_to)
       | inr m ↦ elim (lit_cases lit from) [
         | inl e ↦ subst (λ (l : Lit). (xs : List ℕ) × IsListOfWatchers newer l (head_at newer_heads l) xs) (sym e) (front ++ back, lists.of_from)
         | inr n ↦ (linked_list records heads lit, lists.of_other lit (subst (λ (k : ℕ). lit.var < k) is.vars h) n m)

@@ -1,5 +1,6 @@
 -- The list of a literal where a link leads past one of its members.
-use Rattle.std.proofs.Common.{◌≡◌, ◌≢◌, ◌<◌, ◌≤◌, ◌+◌, ◌⊎◌, ◌↔◌, ℕ, List, [], ◌∷◌, ◌++◌, length, map, get_or, set, Option, Some, None, refl, sym, ◌∙◌, ap, subst, inl, inr, arith, length-set, append_assoc}
+use Rattle.std.proofs.Common.{◌≡◌, ◌≢◌, ◌<◌, ◌≤◌, ◌+◌, ◌⊎◌, ◌↔◌, ℕ, List, [], ◌∷◌, ◌++◌, length, map, get_or, set, Option, Some, None, refl, sym, ◌∙◌, ap}
+use Rattle.std.proofs.Common.{subst, inl, inr, arith, length-set, append_assoc}
 use Rattle.std.specs.List.{All, Contains}
 use Rattle.std.proofs.lemmas.Bool.{cases_eq}
 use Rattle.std.proofs.lemmas.List.{get_or-set_same, get_or-set_other}
@@ -8,7 +9,8 @@ use Rattle.cnf.specs.declared.lit.Lit.{Lit}
 use Rattle.clause_links.specs.declared.records.Record.{Record}
 use Rattle.clause_links.specs.declared.records.Heads.{Heads}
 use Rattle.clause_links.specs.WatchLists.{last_member}
-use Rattle.clause_links.specs.Records.{no_record, record_at, IsWatchedBy, link_of, link_at, with_link, head_at, with_list_head, GoesThrough, linked_list, pair_of, IsWatcher, IsRecord, IsListOfWatchers, AreLinked, unlinked_records, unlinked_heads}
+use Rattle.clause_links.specs.Records.{no_record, record_at, IsWatchedBy, link_of, link_at, with_link, head_at, with_list_head, GoesThrough, linked_list}
+use Rattle.clause_links.specs.Records.{pair_of, IsWatcher, IsRecord, IsListOfWatchers, AreLinked, unlinked_records, unlinked_heads}
 use Rattle.clause_links.proofs.Members.{ends_with, no_last, has_middle}
 use Rattle.clause_links.proofs.Walks.{way_on, way_past}
 use Rattle.clause_links.proofs.Watches.{link-with_link, link-with_link_other, pair-with_link, clause-with_link, IsRecord-with_link}
@@ -87,7 +89,8 @@ unlinked_behind records heads before clause from init back linked watcher way =
 -- either of them
 pub IsUnlinked-from_cut : (records : List Record) (heads : List Heads) (before : Option ℕ) (clause : ℕ) (from : Lit)
     (front back : List ℕ) → AreLinked records heads
-    → IsWatcher records from clause → linked_list records heads from ≡ front ++ clause ∷ back → before ≡ last_member front
+    → IsWatcher records from clause → linked_list records heads from ≡ front ++ clause ∷ back
+    → before ≡ last_member front
     → IsUnlinked records (unlinked_records records before from (link_at records from clause)) heads
     (unlinked_heads heads before from (link_at records from clause)) from (front ++ back)
 IsUnlinked-from_cut records heads None clause from front back linked watcher cut is =
@@ -109,6 +112,7 @@ IsUnlinked-from_cut records heads (Some before) clause from front back linked wa
     subst (λ (l : List ℕ). GoesThrough (link_at records from) (head_at heads from) l) whole (linked.lists from within).linked in
     let member : IsWatcher records from before =
     ((linked.lists from within).members before).0 (subst (λ (l : List ℕ). Contains l before) (sym whole) (has_middle init before (clause ∷ back))) in
-    subst (λ (l : List ℕ). IsUnlinked records (set records before (with_link (record_at records before) from (link_at records from clause))) heads heads from l)
+    subst (λ (l : List ℕ). IsUnlinked records (set records before
+    (with_link (record_at records before) from (link_at records from clause))) heads heads from l)
     (sym rest)
     (unlinked_behind records heads before clause from init back linked member way)

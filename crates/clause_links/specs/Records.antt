@@ -1,6 +1,8 @@
 -- Serves proofs only: how the records of the clauses and the heads of the lists make up watch lists.
 
-use Rattle.std.specs.Prelude.{◌≡◌, ◌≢◌, ◌<◌, ◌+◌, ◌==◌, ◌&&◌, ◌⊎◌, ◌↔◌, ℕ, zero, suc, Bool, true, false, not, List, [], ◌∷◌, length, map, Option, Some, None, All, Contains, slice_index_or, slice_set, if◌then◌else◌}
+use Rattle.std.specs.Prelude.{◌≡◌, ◌≢◌, ◌<◌, ◌+◌, ◌==◌, ◌&&◌, ◌⊎◌, ◌↔◌, ℕ, zero, suc, Bool, true, false, not, List}
+use Rattle.std.specs.Prelude.{[], ◌∷◌, length, map, Option, Some, None, All, Contains, slice_index_or, slice_set}
+use Rattle.std.specs.Prelude.{if◌then◌else◌}
 use Rattle.cnf.specs.declared.lit.Lit.{Lit}
 use Rattle.clause_links.specs.WatchLists.{WatchLists}
 use Rattle.clause_links.specs.declared.records.Record.{Record}
@@ -72,11 +74,13 @@ with_head heads true head = record heads { positive = head }
 with_head heads false head = record heads { negative = head }
 
 abbrev pub with_list_head : List Heads → Lit → Option ℕ → List Heads
-with_list_head heads lit head = slice_set heads lit.var (with_head (slice_index_or heads lit.var no_heads) lit.positive head)
+with_list_head heads lit head =
+    slice_set heads lit.var (with_head (slice_index_or heads lit.var no_heads) lit.positive head)
 
 -- the heads where a clause is the head of the lists of the first two literals of a list
 abbrev pub with_two_heads : List Heads → List Lit → ℕ → List Heads
-with_two_heads heads lits clause = with_list_head (with_list_head heads (nth_lit lits 0) (Some clause)) (nth_lit lits 1) (Some clause)
+with_two_heads heads lits clause =
+    with_list_head (with_list_head heads (nth_lit lits 0) (Some clause)) (nth_lit lits 1) (Some clause)
 
 -- a watch of a literal, before the head of its list
 abbrev pub watch_before : List Heads → Lit → Watch
@@ -163,4 +167,5 @@ pub record IsListOfWatchers (records : List Record) (lit : Lit) (head : Option �
 -- the records and the heads are those of watch lists
 pub record AreLinked (records : List Record) (heads : List Heads) : Type 0 where
   pub each : All (IsRecord (length heads)) records
-  pub lists : (lit : Lit) → lit.var < length heads → IsListOfWatchers records lit (head_at heads lit) (linked_list records heads lit)
+  pub lists : (lit : Lit) → lit.var < length heads
+      → IsListOfWatchers records lit (head_at heads lit) (linked_list records heads lit)

@@ -3,7 +3,8 @@
 -- Two watched literals are those of M. W. Moskewicz, C. F. Madigan, Y. Zhao, L. Zhang and S. Malik, Chaff: engineering
 -- an efficient SAT solver, Design Automation Conference (2001).
 
-use Rattle.std.specs.Prelude.{◌≡◌, ◌≢◌, ◌<◌, ◌-◌, ◌++◌, ◌⊎◌, ◌↔◌, ℕ, List, [], ◌∷◌, length, nat_eq, Option, Some, All, Contains, slice_get, slice_index_or, if◌then◌else◌}
+use Rattle.std.specs.Prelude.{◌≡◌, ◌≢◌, ◌<◌, ◌-◌, ◌++◌, ◌⊎◌, ◌↔◌, ℕ, List, [], ◌∷◌, length, nat_eq, Option, Some}
+use Rattle.std.specs.Prelude.{All, Contains, slice_get, slice_index_or, if◌then◌else◌}
 use Rattle.std.specs.List.{IsDistinct}
 use Rattle.cnf.specs.declared.lit.Lit.{Lit}
 

@@ -1,6 +1,7 @@
 //! `ClauseLinks` and its calls.
 
-ghost use Rattle.std.specs.Prelude.{◌≡◌, ◌≢◌, ◌<◌, ◌≤◌, ◌+◌, ◌∷◌, ◌++◌, ◌↔◌, ℕ, List, [], None, Some, length, IsTrue, IfOk, OnOk, OnErr, All, Contains, slice_get};
+ghost use Rattle.std.specs.Prelude.{◌≡◌, ◌≢◌, ◌<◌, ◌≤◌, ◌+◌, ◌∷◌, ◌++◌, ◌↔◌, ℕ, List, [], None, Some, length};
+ghost use Rattle.std.specs.Prelude.{IsTrue, IfOk, OnOk, OnErr, All, Contains, slice_get};
 ghost use Rattle.port_types.specs.Counts.{next_count};
 ghost use Rattle.cnf.specs.declared.lit.Lit.{Lit};
 
@@ -31,7 +32,8 @@ impl Model for ClauseLinks {
 }
 
 impl ClauseLinks {
-    ghost use Rattle.clause_links.specs.WatchLists.{WatchLists, AreExact, Watches, WatchesBoth, IsRewatched, IsWatchedFirst, Precedes, watchers, clause_lits};
+    ghost use Rattle.clause_links.specs.WatchLists.{WatchLists, AreExact, Watches, WatchesBoth, IsRewatched};
+    ghost use Rattle.clause_links.specs.WatchLists.{IsWatchedFirst, Precedes, watchers, clause_lits};
 
     /// No variables and no clauses.
     pub fn new(alloc: Global) -> ClauseLinks

@@ -1,7 +1,10 @@
 //! The record of a clause, with its links, and the heads of the lists of a variable.
 
 ghost use Rattle.std.specs.Prelude.{◌≡◌, ◌<◌, length, slice_index_or, ◌≤◌, slice_set, None, Some, MatchOption, IfOk};
-ghost use Rattle.clause_links.specs.Records.{IsWatchedBy, link_of, link_at, with_link, with_watch, head_at, head_of, with_head, with_list_head, no_heads, unlinked_records, unlinked_heads, moved_records, records_after, heads_after, record_at, nth_lit, watch_before, with_two_heads};
+ghost use Rattle.clause_links.specs.Records.{IsWatchedBy, link_of, link_at, with_link, with_watch, head_at};
+ghost use Rattle.clause_links.specs.Records.{head_of, with_head, with_list_head, no_heads, unlinked_records};
+ghost use Rattle.clause_links.specs.Records.{unlinked_heads, moved_records, records_after, heads_after, record_at};
+ghost use Rattle.clause_links.specs.Records.{nth_lit, watch_before, with_two_heads};
 
 use cnf::{Clause, Lit};
 use port_types::NoMemory;

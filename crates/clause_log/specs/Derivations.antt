@@ -5,7 +5,8 @@
 -- steps, as in the resolution proofs of L. Zhang and S. Malik, Validating SAT solvers using an
 -- independent resolution-based checker, DATE 2003.
 
-use Rattle.std.specs.Prelude.{◌≡◌, ◌≢◌, ◌<◌, ◌↔◌, ◌⊎◌, ℕ, List, [], ◌∷◌, ◌++◌, length, map, take, Contains, slice_get, slice_index_or, Some}
+use Rattle.std.specs.Prelude.{◌≡◌, ◌≢◌, ◌<◌, ◌↔◌, ◌⊎◌, ℕ, List, [], ◌∷◌, ◌++◌, length, map, take, Contains}
+use Rattle.std.specs.Prelude.{slice_get, slice_index_or, Some}
 use Rattle.cnf.specs.declared.lit.Lit.{Lit}
 use Rattle.cnf.specs.Clauses.{opposite, HasNoModel}
 use Rattle.clause_log.specs.declared.chain.Pivot.{Pivot}

@@ -120,7 +120,8 @@ fn take_steps(cnf: &[Clause], log: &[Chain], steps: &[Pivot], set: &mut LitSet) 
     requires { All (All (λ lit. lit.var < length set.old)) (clauses_by_number cnf.now log.now) }
     ensures vars { length set.new ≡ length set.old }
     ensures yes { IsTrue result → (clause : List Lit)
-        → Leads (clauses_by_number cnf.now log.now) (members set.old) steps.now clause ↔ SameLits (members set.new) clause }
+        → Leads (clauses_by_number cnf.now log.now) (members set.old) steps.now clause
+        ↔ SameLits (members set.new) clause }
     ensures no { result ≡ false → (clause : List Lit)
         → Leads (clauses_by_number cnf.now log.now) (members set.old) steps.now clause → ⊥ }
 {

@@ -8,7 +8,8 @@ use Rattle.std.specs.List.{All}
 use Rattle.cnf.specs.declared.lit.Lit.{Lit}
 use Rattle.cnf.specs.Clauses.{opposite, lit_holds, clauses_hold, lit_values}
 use Rattle.cnf.specs.Gates.{literal, xor, majority, and_clauses, xor_clauses, majority_clauses}
-use Rattle.cnf.specs.Arithmetic.{bit, signed_number, comparison_pairs, later_greater_clauses, greater_clauses, later_sum_clauses, sum_clauses, later_sum_bits, sum_bits}
+use Rattle.cnf.specs.Arithmetic.{bit, signed_number, comparison_pairs, later_greater_clauses, greater_clauses, later_sum_clauses, sum_clauses}
+use Rattle.cnf.specs.Arithmetic.{later_sum_bits, sum_bits}
 use Rattle.cnf.proofs.ModelLaws.{lit_holds-opposite, clauses_hold-append}
 use Rattle.cnf.proofs.GateLaws.{and_means, xor_means, majority_means}
 
@@ -36,7 +37,9 @@ full_adder false false true = refl
 full_adder false false false = refl
 
 -- the signs added once more, with the carry of their own place
-sign_adder : (a b c : Bool) → bit (xor (xor a b) (majority a b c)) +ℤ (pos 2 *ℤ (pos 0 -ℤ bit (xor (xor a b) (majority a b c)))) ≡ (pos 0 -ℤ bit a) +ℤ (pos 0 -ℤ bit b) +ℤ bit (majority a b c)
+sign_adder : (a b c : Bool)
+    → bit (xor (xor a b) (majority a b c)) +ℤ (pos 2 *ℤ (pos 0 -ℤ bit (xor (xor a b) (majority a b c)))) ≡ (pos 0 -ℤ bit a) +ℤ (pos 0 -ℤ bit b) +ℤ bit
+    (majority a b c)
 sign_adder true true true = refl
 sign_adder true true false = refl
 sign_adder true false true = refl
@@ -46,7 +49,8 @@ sign_adder false true false = refl
 sign_adder false false true = refl
 sign_adder false false false = refl
 
-add_places : (a b c s d x y z : ℤ) → a +ℤ b +ℤ c ≡ s +ℤ (pos 2 *ℤ d) → z ≡ x +ℤ y +ℤ d → s +ℤ (pos 2 *ℤ z) ≡ (a +ℤ (pos 2 *ℤ x)) +ℤ (b +ℤ (pos 2 *ℤ y)) +ℤ c
+add_places : (a b c s d x y z : ℤ) → a +ℤ b +ℤ c ≡ s +ℤ (pos 2 *ℤ d) → z ≡ x +ℤ y +ℤ d
+    → s +ℤ (pos 2 *ℤ z) ≡ (a +ℤ (pos 2 *ℤ x)) +ℤ (b +ℤ (pos 2 *ℤ y)) +ℤ c
 add_places a b c s d x y z e f = omega (arith, ints)
 
 compare_ttt : (x y : ℤ) → int_lt y (x +ℤ pos 1) ≡ int_lt (pos 1 +ℤ (pos 2 *ℤ y)) ((pos 1 +ℤ (pos 2 *ℤ x)) +ℤ pos 1)
@@ -73,7 +77,8 @@ compare_fft x y = grind (arith, ints)
 compare_fff : (x y : ℤ) → int_lt y (x +ℤ pos 0) ≡ int_lt (pos 0 +ℤ (pos 2 *ℤ y)) ((pos 0 +ℤ (pos 2 *ℤ x)) +ℤ pos 0)
 compare_fff x y = grind (arith, ints)
 
-pub compare_places : (a b g : Bool) (x y : ℤ) → int_lt y (x +ℤ bit (majority a (not b) g)) ≡ int_lt (bit b +ℤ (pos 2 *ℤ y)) ((bit a +ℤ (pos 2 *ℤ x)) +ℤ bit g)
+pub compare_places : (a b g : Bool) (x y : ℤ)
+    → int_lt y (x +ℤ bit (majority a (not b) g)) ≡ int_lt (bit b +ℤ (pos 2 *ℤ y)) ((bit a +ℤ (pos 2 *ℤ x)) +ℤ bit g)
 compare_places true true true x y = compare_ttt x y
 compare_places true true false x y = compare_ttf x y
 compare_places true false true x y = compare_tft x y
@@ -99,13 +104,16 @@ and_as_majority true false = refl
 and_as_majority false true = refl
 and_as_majority false false = refl
 
-split : (model : List Bool) (xs ys : List (List Lit)) → clauses_hold model (xs ++ ys) ≡ true → (clauses_hold model xs ≡ true) × (clauses_hold model ys ≡ true)
+split : (model : List Bool) (xs ys : List (List Lit)) → clauses_hold model (xs ++ ys) ≡ true
+    → (clauses_hold model xs ≡ true) × (clauses_hold model ys ≡ true)
 split model xs ys h = and_parts (clauses_hold model xs) (clauses_hold model ys) (sym (clauses_hold-append model xs ys) ∙ h)
 
-signs_added : (r c p q d x : Bool) → r ≡ xor x c → x ≡ xor p q → c ≡ majority p q d → bit r +ℤ (pos 2 *ℤ (pos 0 -ℤ bit r)) ≡ (pos 0 -ℤ bit p) +ℤ (pos 0 -ℤ bit q) +ℤ bit c
+signs_added : (r c p q d x : Bool) → r ≡ xor x c → x ≡ xor p q → c ≡ majority p q d
+    → bit r +ℤ (pos 2 *ℤ (pos 0 -ℤ bit r)) ≡ (pos 0 -ℤ bit p) +ℤ (pos 0 -ℤ bit q) +ℤ bit c
 signs_added r c p q d x er ex ec = rw (er, ex, ec) (sign_adder p q d)
 
-place_added : (a b c x s d : Bool) → x ≡ xor a b → s ≡ xor x c → d ≡ majority a b c → bit a +ℤ bit b +ℤ bit c ≡ bit s +ℤ (pos 2 *ℤ bit d)
+place_added : (a b c x s d : Bool) → x ≡ xor a b → s ≡ xor x c → d ≡ majority a b c
+    → bit a +ℤ bit b +ℤ bit c ≡ bit s +ℤ (pos 2 *ℤ bit d)
 place_added a b c x s d ex es ed = rw (es, ex, ed) (full_adder a b c)
 
 -- the adders from the second place on: p and q are the bits before, whose carry is that of p, q and d
@@ -120,7 +128,8 @@ pub sum_on_adds :
     → lit_holds model either ≡ xor p q
     → lit_holds model carry ≡ majority p q d
     → clauses_hold model (later_sum_clauses n either carry left right) ≡ true
-    → signed_after s (lit_values model (later_sum_bits n left)) ≡ signed_after p (lit_values model left) +ℤ signed_after q (lit_values model right) +ℤ bit (lit_holds model carry)
+    → signed_after s (lit_values model (later_sum_bits n left)) ≡ signed_after p (lit_values model left) +ℤ signed_after q
+    (lit_values model right) +ℤ bit (lit_holds model carry)
 sum_on_adds model n either carry [] [] s p q d same room le lc ll lr ee ec h =
     signs_added (lit_holds model (literal n)) (lit_holds model carry) p q d (lit_holds model either)
     (xor_means model n either carry (omega arith) le lc h) ee ec
@@ -129,18 +138,23 @@ sum_on_adds model n either carry (a ∷ left) [] s p q d same room le lc ll lr e
 sum_on_adds model n either carry (a ∷ left) (b ∷ right) s p q d same room le lc ll lr ee ec h =
     let la : a.var < length model = All-head (λ lit. lit.var < length model) a left ll in
     let lb : b.var < length model = All-head (λ lit. lit.var < length model) b right lr in
-    let rest = split model (xor_clauses n a b ++ xor_clauses (n + 1) (literal n) carry ++ majority_clauses (n + 2) a b carry) (later_sum_clauses (n + 3) (literal n) (literal (n + 2)) left right) h in
+    let rest = split model (xor_clauses n a b ++ xor_clauses (n + 1) (literal n) carry ++ majority_clauses (n + 2) a b carry)
+    (later_sum_clauses (n + 3) (literal n) (literal (n + 2)) left right) h in
     let third = split model (xor_clauses n a b ++ xor_clauses (n + 1) (literal n) carry) (majority_clauses (n + 2) a b carry) rest.0 in
     let second = split model (xor_clauses n a b) (xor_clauses (n + 1) (literal n) carry) third.0 in
     let is_either : lit_holds model (literal n) ≡ xor (lit_holds model a) (lit_holds model b) = xor_means model n a b (omega arith) la lb second.0 in
-    let is_sum : lit_holds model (literal (n + 1)) ≡ xor (lit_holds model (literal n)) (lit_holds model carry) = xor_means model (n + 1) (literal n) carry (omega arith) (omega arith) lc second.1 in
-    let is_carry : lit_holds model (literal (n + 2)) ≡ majority (lit_holds model a) (lit_holds model b) (lit_holds model carry) = majority_means model (n + 2) a b carry (omega arith) la lb lc third.1 in
+    let is_sum : lit_holds model (literal (n + 1)) ≡ xor (lit_holds model (literal n)) (lit_holds model carry) = xor_means model (n + 1)
+    (literal n) carry (omega arith) (omega arith) lc second.1 in
+    let is_carry : lit_holds model (literal (n + 2)) ≡ majority (lit_holds model a) (lit_holds model b) (lit_holds model carry) = majority_means model
+    (n + 2) a b carry (omega arith) la lb lc third.1 in
     add_places (bit (lit_holds model a)) (bit (lit_holds model b)) (bit (lit_holds model carry))
     (bit (lit_holds model (literal (n + 1)))) (bit (lit_holds model (literal (n + 2))))
     (signed_after (lit_holds model a) (lit_values model left)) (signed_after (lit_holds model b) (lit_values model right))
     (signed_after (lit_holds model (literal (n + 1))) (lit_values model (later_sum_bits (n + 3) left)))
-    (place_added (lit_holds model a) (lit_holds model b) (lit_holds model carry) (lit_holds model (literal n)) (lit_holds model (literal (n + 1))) (lit_holds model (literal (n + 2))) is_either is_sum is_carry)
-    (sum_on_adds model (n + 3) (literal n) (literal (n + 2)) left right (lit_holds model (literal (n + 1))) (lit_holds model a) (lit_holds model b) (lit_holds model carry)
+    (place_added (lit_holds model a) (lit_holds model b) (lit_holds model carry) (lit_holds model (literal n)) (lit_holds model (literal (n + 1)))
+    (lit_holds model (literal (n + 2))) is_either is_sum is_carry)
+    (sum_on_adds model (n + 3) (literal n) (literal (n + 2)) left right (lit_holds model (literal (n + 1))) (lit_holds model a) (lit_holds model b)
+    (lit_holds model carry)
     (omega arith) (omega arith) (omega arith) (omega arith)
     (All-tail (λ lit. lit.var < length model) a left ll) (All-tail (λ lit. lit.var < length model) b right lr)
     is_either is_carry rest.1)
@@ -188,13 +202,16 @@ sum_adds model n (a ∷ left) (b ∷ right) same some room ll lr h =
     is_sum (is_carry ∙ and_as_majority (lit_holds model a) (lit_holds model b)) rest.1) in
     signed-cons (lit_holds model (literal n)) (lit_values model (later_sum_bits (n + 2) left))
     ∙ added
-    ∙ no_carry (bit (lit_holds model a) +ℤ (pos 2 *ℤ signed_after (lit_holds model a) (lit_values model left))) (bit (lit_holds model b) +ℤ (pos 2 *ℤ signed_after (lit_holds model b) (lit_values model right)))
+    ∙ no_carry (bit (lit_holds model a) +ℤ (pos 2 *ℤ signed_after (lit_holds model a) (lit_values model left)))
+    (bit (lit_holds model b) +ℤ (pos 2 *ℤ signed_after (lit_holds model b) (lit_values model right)))
     ∙ sym (rw (signed-cons (lit_holds model a) (lit_values model left), signed-cons (lit_holds model b) (lit_values model right)) refl)
 
-signs_compared : (r a b na g : Bool) → r ≡ majority b na g → na ≡ not a → r ≡ int_lt (pos 0 -ℤ bit b) ((pos 0 -ℤ bit a) +ℤ bit g)
+signs_compared : (r a b na g : Bool) → r ≡ majority b na g → na ≡ not a
+    → r ≡ int_lt (pos 0 -ℤ bit b) ((pos 0 -ℤ bit a) +ℤ bit g)
 signs_compared r a b na g er ea = er ∙ rw ea (compare_signs a b g)
 
-place_compared : (r h a b nb g : Bool) (x y : ℤ) → h ≡ majority a nb g → nb ≡ not b → r ≡ int_lt y (x +ℤ bit h) → r ≡ int_lt (bit b +ℤ (pos 2 *ℤ y)) ((bit a +ℤ (pos 2 *ℤ x)) +ℤ bit g)
+place_compared : (r h a b nb g : Bool) (x y : ℤ) → h ≡ majority a nb g → nb ≡ not b → r ≡ int_lt y (x +ℤ bit h)
+    → r ≡ int_lt (bit b +ℤ (pos 2 *ℤ y)) ((bit a +ℤ (pos 2 *ℤ x)) +ℤ bit g)
 place_compared r h a b nb g x y eh eb er = er ∙ rw (eh, eb) (compare_places a b g x y)
 
 -- the comparison from the second place on, where `greater` counts as one more on the left
@@ -207,12 +224,14 @@ pub greater_on_compares :
     → All (λ lit. lit.var < length model) (a ∷ left)
     → All (λ lit. lit.var < length model) (b ∷ right)
     → clauses_hold model (later_greater_clauses n greater (comparison_pairs (a ∷ left) (b ∷ right))) ≡ true
-    → lit_holds model (literal k) ≡ int_lt (signed_number (lit_values model (b ∷ right))) (signed_number (lit_values model (a ∷ left)) +ℤ bit (lit_holds model greater))
+    → lit_holds model (literal k) ≡ int_lt (signed_number (lit_values model (b ∷ right)))
+    (signed_number (lit_values model (a ∷ left)) +ℤ bit (lit_holds model greater))
 greater_on_compares model n k greater a [] b [] same at room lg ll lr h =
     let la : a.var < length model = All-head (λ lit. lit.var < length model) a [] ll in
     let lb : b.var < length model = All-head (λ lit. lit.var < length model) b [] lr in
     let here : k ≡ n = omega arith in
-    let is : lit_holds model (literal n) ≡ majority (lit_holds model b) (lit_holds model (opposite a)) (lit_holds model greater) = majority_means model n b (opposite a) greater (omega arith) lb la lg h in
+    let is : lit_holds model (literal n) ≡ majority (lit_holds model b) (lit_holds model (opposite a)) (lit_holds model greater) =
+    majority_means model n b (opposite a) greater (omega arith) lb la lg h in
     signs_compared (lit_holds model (literal k)) (lit_holds model a) (lit_holds model b) (lit_holds model (opposite a)) (lit_holds model greater)
     (ap (λ j. lit_holds model (literal j)) here ∙ is)
     (lit_holds-opposite model a la)
@@ -221,8 +240,10 @@ greater_on_compares model n k greater a (a' ∷ left) b [] same at room lg ll lr
 greater_on_compares model n k greater a (a' ∷ left) b (b' ∷ right) same at room lg ll lr h =
     let la : a.var < length model = All-head (λ lit. lit.var < length model) a (a' ∷ left) ll in
     let lb : b.var < length model = All-head (λ lit. lit.var < length model) b (b' ∷ right) lr in
-    let both = split model (majority_clauses n a (opposite b) greater) (later_greater_clauses (n + 1) (literal n) (comparison_pairs (a' ∷ left) (b' ∷ right))) h in
-    place_compared (lit_holds model (literal k)) (lit_holds model (literal n)) (lit_holds model a) (lit_holds model b) (lit_holds model (opposite b)) (lit_holds model greater)
+    let both = split model (majority_clauses n a (opposite b) greater)
+    (later_greater_clauses (n + 1) (literal n) (comparison_pairs (a' ∷ left) (b' ∷ right))) h in
+    place_compared (lit_holds model (literal k)) (lit_holds model (literal n)) (lit_holds model a) (lit_holds model b) (lit_holds model (opposite b))
+    (lit_holds model greater)
     (signed_number (lit_values model (a' ∷ left))) (signed_number (lit_values model (b' ∷ right)))
     (majority_means model n a (opposite b) greater (omega arith) la lb lg both.0)
     (lit_holds-opposite model b lb)

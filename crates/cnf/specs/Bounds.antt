@@ -7,7 +7,8 @@
 -- This is the lexicographic comparison of A. Frisch, B. Hnich, Z. Kiziltan, I. Miguel and T. Walsh, Global
 -- constraints for lexicographic orderings (2002), with one side constant.
 
-use Rattle.std.specs.Prelude.{ℕ, zero, suc, ◌+◌, ◌*◌, ◌/◌, ◌%◌, ◌^◌, Bool, true, false, not, ℤ, pos, negsuc, List, [], ◌∷◌, ◌++◌, map, reverse, nat_eq, nat_lt, if◌then◌else◌}
+use Rattle.std.specs.Prelude.{ℕ, zero, suc, ◌+◌, ◌*◌, ◌/◌, ◌%◌, ◌^◌, Bool, true, false, not, ℤ, pos, negsuc, List}
+use Rattle.std.specs.Prelude.{[], ◌∷◌, ◌++◌, map, reverse, nat_eq, nat_lt, if◌then◌else◌}
 use Rattle.cnf.specs.declared.lit.Lit.{Lit}
 use Rattle.cnf.specs.Clauses.{opposite}
 use Rattle.cnf.specs.Gates.{literal}

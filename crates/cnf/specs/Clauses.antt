@@ -3,7 +3,8 @@
 -- This is the satisfaction relation of propositional logic in conjunctive normal form, as in
 -- A. Biere, M. Heule, H. van Maaren, T. Walsh (eds.), Handbook of Satisfiability, chapter 2.
 
-use Rattle.std.specs.Prelude.{◌≡◌, ◌≤◌, ℕ, Bool, true, false, not, List, ◌++◌, length, map, slice_index_or, if◌then◌else◌}
+use Rattle.std.specs.Prelude.{◌≡◌, ◌≤◌, ℕ, Bool, true, false, not, List, ◌++◌, length, map, slice_index_or}
+use Rattle.std.specs.Prelude.{if◌then◌else◌}
 use Rattle.std.specs.List.{list_any, list_all}
 use Rattle.cnf.specs.declared.lit.Lit.{Lit}
 

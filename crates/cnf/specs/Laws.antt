@@ -47,7 +47,8 @@ abbrev pub LeIsRight : Type 0
 LeIsRight = (model : List Bool) (n : ℕ) (a b : List Lit)
     → 0 < length a → length a ≡ length b → n + length a ≤ length model → HasValues model a → HasValues model b
     → clauses_hold model (le_clauses n a b) ≡ true
-    → lit_holds model (le_literal n a) ≡ int_le (signed_number (lit_values model a)) (signed_number (lit_values model b))
+    → lit_holds model (le_literal n a)
+    ≡ int_le (signed_number (lit_values model a)) (signed_number (lit_values model b))
 
 abbrev pub SumIsRight : Type 0
 SumIsRight = (model : List Bool) (n : ℕ) (a b : List Lit)

@@ -1,7 +1,8 @@
-//! Gates over rows of bits in two's complement: the comparison of two rows and their exact sum. They add variables and clauses
-//! to a base.
+//! Gates over rows of bits in two's complement: the comparison of two rows and their exact sum. They add variables and
+//! clauses to a base.
 
-ghost use Rattle.std.specs.Prelude.{◌≡◌, ◌+◌, ◌*◌, ◌<◌, ◌+ℤ◌, ◌∷◌, ◌++◌, ℕ, List, Bool, IfOk, OnOk, All, drop, length, int_le};
+ghost use Rattle.std.specs.Prelude.{◌≡◌, ◌+◌, ◌*◌, ◌<◌, ◌+ℤ◌, ◌∷◌, ◌++◌, ℕ, List, Bool, IfOk, OnOk, All, drop};
+ghost use Rattle.std.specs.Prelude.{length, int_le};
 ghost use Rattle.cnf.specs.Clauses.{lit_values, IsModel, Represents, IsConservative};
 ghost use Rattle.cnf.specs.Gates.{literal, xor_clauses, majority_clauses};
 ghost use Rattle.cnf.specs.Arithmetic.{signed_number, comparison_pairs, le_clauses, le_literal, sum_clauses, sum_bits};
@@ -17,7 +18,8 @@ use std::alloc::Global;
 fn comparison_pair(a: &[Lit], b: &[Lit], place: usize) -> (Lit, Lit)
     requires within { place < length a.now }
     requires same { length a.now ≡ length b.now }
-    ensures bits { drop place (comparison_pairs a.now b.now) ≡ result ∷ drop (place + 1) (comparison_pairs a.now b.now) }
+    ensures bits { drop place (comparison_pairs a.now b.now)
+        ≡ result ∷ drop (place + 1) (comparison_pairs a.now b.now) }
     ensures known { (n : ℕ) → All (λ lit. lit.var < n) a.now → All (λ lit. lit.var < n) b.now
         → (result.0.var < n) × (result.1.var < n) }
 {
@@ -42,7 +44,8 @@ pub fn gate_le<B: ClauseBase>(base: &mut B, a: &[Lit], b: &[Lit]) -> Result<Lit,
     ensures grows { IsConservative (B.vars base.old) (B.clauses base.old) (B.vars base.new) (B.clauses base.new) }
     ensures answer { IfOk result (λ c. c ≡ le_literal (B.vars base.old) a.now) }
     ensures vars { OnOk result (B.vars base.new ≡ B.vars base.old + length a.now) }
-    ensures clauses { OnOk result (B.clauses base.new ≡ B.clauses base.old ++ le_clauses (B.vars base.old) a.now b.now) }
+    ensures clauses { OnOk result
+        (B.clauses base.new ≡ B.clauses base.old ++ le_clauses (B.vars base.old) a.now b.now) }
 {
     let (x, y) = comparison_pair(a, b, 0);
     let not_y = y.negated();
@@ -98,13 +101,15 @@ pub fn adder<B: ClauseBase>(
     requires left { All (λ lit. lit.var < B.vars base.old) a.now }
     requires right { All (λ lit. lit.var < B.vars base.old) b.now }
     ensures value { IfOk result (λ sum. (model : List Bool) → IsModel (B.vars base.new) (B.clauses base.new) model
-        → signed_number (lit_values model sum) ≡ signed_number (lit_values model a.now) +ℤ signed_number (lit_values model b.now)) }
+        → signed_number (lit_values model sum)
+        ≡ signed_number (lit_values model a.now) +ℤ signed_number (lit_values model b.now)) }
     ensures grows { IsConservative (B.vars base.old) (B.clauses base.old) (B.vars base.new) (B.clauses base.new) }
     ensures known { IfOk result (λ sum. All (λ lit. lit.var < B.vars base.new) sum) }
     ensures len { IfOk result (λ sum. length sum ≡ length a.now + 1) }
     ensures answer { IfOk result (λ sum. sum ≡ sum_bits (B.vars base.old) a.now) }
     ensures vars { OnOk result (B.vars base.new ≡ B.vars base.old + 3 * length a.now) }
-    ensures clauses { OnOk result (B.clauses base.new ≡ B.clauses base.old ++ sum_clauses (B.vars base.old) a.now b.now) }
+    ensures clauses { OnOk result
+        (B.clauses base.new ≡ B.clauses base.old ++ sum_clauses (B.vars base.old) a.now b.now) }
 {
     let mut sum = Bits::new(alloc);
     let mut differ = gate_xor(base, a[0], b[0])?;

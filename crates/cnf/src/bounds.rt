@@ -3,11 +3,13 @@
 //! Main functions: `gate_at_most_const`, `add_limit`, `constant_bits`. Touches the base that it is lent, and
 //! nothing else.
 
-ghost use Rattle.std.specs.Prelude.{◌≡◌, ◌+◌, ◌<◌, ◌^◌, OnErr, take, ◌∷◌, ◌++◌, [], ℕ, List, Bool, not, map, pos, IfOk, OnOk, All, length, drop, int_le, true, ◌↔◌, IsTrue, nat_le};
+ghost use Rattle.std.specs.Prelude.{◌≡◌, ◌+◌, ◌<◌, ◌^◌, OnErr, take, ◌∷◌, ◌++◌, [], ℕ, List, Bool, not, map, pos};
+ghost use Rattle.std.specs.Prelude.{IfOk, OnOk, All, length, drop, int_le, true, ◌↔◌, IsTrue, nat_le};
 ghost use Rattle.cnf.specs.Clauses.{opposite, lit_values, clauses_hold, Represents, IsConservative};
 ghost use Rattle.cnf.specs.Gates.{literal};
 ghost use Rattle.cnf.specs.Arithmetic.{signed_number};
-ghost use Rattle.cnf.specs.Bounds.{binary_digits, constant_bits, has_places, binary_number, sign_first, limit_down, limit_clauses, at_most_down, at_most_const_clauses};
+ghost use Rattle.cnf.specs.Bounds.{binary_digits, constant_bits, has_places, binary_number, sign_first, limit_down};
+ghost use Rattle.cnf.specs.Bounds.{limit_clauses, at_most_down, at_most_const_clauses};
 ghost use Rattle.cnf.specs.Signs.{signed_by, signed_digit};
 
 use crate::base::ClauseBase;
@@ -129,7 +131,8 @@ fn add_place<B: ClauseBase>(
     ensures greater { OnOk result (All (λ lit. lit.var < B.vars base.old) greater.new.items) }
     ensures less { OnOk result (All (λ lit. lit.var < B.vars base.old) less.new.items) }
     ensures ok { OnOk result ((added : List (List Lit)) × (B.clauses base.new ≡ B.clauses base.old ++ added)
-        × ((row : List Lit) → (bound : List Bool) → at_most_down greater.old.items less.old.items (lit ∷ row) (set ∷ bound)
+        × ((row : List Lit) → (bound : List Bool)
+        → at_most_down greater.old.items less.old.items (lit ∷ row) (set ∷ bound)
         ≡ added ++ at_most_down greater.new.items less.new.items row bound)) }
 {
     greater.push(lit)?;

@@ -28,7 +28,8 @@ fn add_all<B: ClauseBase, const N: usize>(
 pub fn gate_and<B: ClauseBase>(base: &mut B, a: Lit, b: Lit) -> Result<Lit, NoMemory>
     requires left { a.var < B.vars base.old }
     requires right { b.var < B.vars base.old }
-    ensures value { IfOk result (λ c. Represents (B.vars base.new) (B.clauses base.new) c (λ model. lit_holds model a && lit_holds model b)) }
+    ensures value { IfOk result (λ c. Represents (B.vars base.new) (B.clauses base.new) c
+        (λ model. lit_holds model a && lit_holds model b)) }
     ensures grows { IsConservative (B.vars base.old) (B.clauses base.old) (B.vars base.new) (B.clauses base.new) }
     ensures answer { IfOk result (λ c. c ≡ literal (B.vars base.old)) }
     ensures vars { OnOk result (B.vars base.new ≡ B.vars base.old + 1) }
@@ -48,7 +49,8 @@ pub fn gate_and<B: ClauseBase>(base: &mut B, a: Lit, b: Lit) -> Result<Lit, NoMe
 pub fn gate_xor<B: ClauseBase>(base: &mut B, a: Lit, b: Lit) -> Result<Lit, NoMemory>
     requires left { a.var < B.vars base.old }
     requires right { b.var < B.vars base.old }
-    ensures value { IfOk result (λ c. Represents (B.vars base.new) (B.clauses base.new) c (λ model. xor (lit_holds model a) (lit_holds model b))) }
+    ensures value { IfOk result (λ c. Represents (B.vars base.new) (B.clauses base.new) c
+        (λ model. xor (lit_holds model a) (lit_holds model b))) }
     ensures grows { IsConservative (B.vars base.old) (B.clauses base.old) (B.vars base.new) (B.clauses base.new) }
     ensures answer { IfOk result (λ c. c ≡ literal (B.vars base.old)) }
     ensures vars { OnOk result (B.vars base.new ≡ B.vars base.old + 1) }
@@ -81,7 +83,8 @@ pub fn gate_majority<B: ClauseBase>(base: &mut B, a: Lit, b: Lit, c: Lit) -> Res
     ensures grows { IsConservative (B.vars base.old) (B.clauses base.old) (B.vars base.new) (B.clauses base.new) }
     ensures answer { IfOk result (λ v. v ≡ literal (B.vars base.old)) }
     ensures vars { OnOk result (B.vars base.new ≡ B.vars base.old + 1) }
-    ensures clauses { OnOk result (B.clauses base.new ≡ B.clauses base.old ++ majority_clauses (B.vars base.old) a b c) }
+    ensures clauses { OnOk result
+        (B.clauses base.new ≡ B.clauses base.old ++ majority_clauses (B.vars base.old) a b c) }
 {
     let v = Lit {
         var: base.new_var()?,

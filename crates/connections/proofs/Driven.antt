@@ -1,4 +1,5 @@
-use Rattle.std.proofs.Common.{◌≡◌, ℕ, zero, suc, ◌+◌, ◌<◌, ◌≤◌, ◌⊎◌, Bool, true, false, not, cond, List, [], ◌∷◌, ◌++◌, map, length, Option, Some, None, option_map, slice_get, is_none, refl, sym, ap, ◌∙◌, inl, inr, arith, append_assoc, length-append}
+use Rattle.std.proofs.Common.{◌≡◌, ℕ, zero, suc, ◌+◌, ◌<◌, ◌≤◌, ◌⊎◌, Bool, true, false, not, cond, List, [], ◌∷◌, ◌++◌, map, length, Option, Some, None}
+use Rattle.std.proofs.Common.{option_map, slice_get, is_none, refl, sym, ap, ◌∙◌, inl, inr, arith, append_assoc, length-append}
 use Rattle.std.proofs.lemmas.List.{append-nil}
 use Rattle.std.proofs.lemmas.List.Elements.{filter-append}
 use Rattle.std.proofs.lemmas.Bool.{false≢true}
@@ -10,18 +11,21 @@ use Rattle.architecture.specs.declared.spec.Spec.{Spec}
 use Rattle.architecture.specs.declared.sub.Sub.{Sub}
 use Rattle.architecture.specs.declared.wire.Wire.{Wire}
 use Rattle.architecture.specs.declared.wire.Target.{Target}
-use Rattle.architecture.specs.Architecture.{ports_of, ports_at, subs_of, wires_of, target, targets_at, all_ports, same_target, connection, free_targets, free_place}
+use Rattle.architecture.specs.Architecture.{ports_of, ports_at, subs_of, wires_of, target, targets_at, all_ports, same_target, connection, free_targets}
+use Rattle.architecture.specs.Architecture.{free_place}
 use Rattle.connections.specs.declared.driving.Driver.{Driver}
 use Rattle.connections.specs.declared.driving.Driver.TheVariants as driver
 use Rattle.connections.specs.Drivers.{first_place, first_wire, driver_of, port_rows, driver_rows}
-use Rattle.connections.specs.Tables.{port_counts, blank, row_of, cell_with_wire, row_with_wire, rows_with_wire, rows_with_wires, vacant, vacant_rows, drivers_of_row, drivers_of_rows}
+use Rattle.connections.specs.Tables.{port_counts, blank, row_of, cell_with_wire, row_with_wire, rows_with_wire, rows_with_wires, vacant, vacant_rows}
+use Rattle.connections.specs.Tables.{drivers_of_row, drivers_of_rows}
 use Rattle.connections.proofs.Targets.{same_target_itself, other_target}
 
 -- The tables of drivers are what the definitions say.
 
 -- the place of the first that passes, with one more element at the end
 
-first_place-push_true : {X : Type 0} (p : X → Bool) (xs : List X) (x : X) → p x ≡ true → first_place p (xs ++ x ∷ []) ≡ cell_with_wire (first_place p xs) (length xs)
+first_place-push_true : {X : Type 0} (p : X → Bool) (xs : List X) (x : X) → p x ≡ true
+    → first_place p (xs ++ x ∷ []) ≡ cell_with_wire (first_place p xs) (length xs)
 first_place-push_true p [] x h = rw h refl
 first_place-push_true p (y ∷ xs) x h = step (p y) (first_place p (xs ++ x ∷ [])) (first_place p xs) (length xs) (first_place-push_true p xs x h) where
   step : (b : Bool) (o q : Option ℕ) (n : ℕ) → o ≡ cell_with_wire q n
@@ -30,7 +34,8 @@ first_place-push_true p (y ∷ xs) x h = step (p y) (first_place p (xs ++ x ∷ 
   step false o None n e = rw e (ap Some (omega arith))
   step false o (Some k) n e = rw e refl
 
-first_place-push_false : {X : Type 0} (p : X → Bool) (xs : List X) (x : X) → p x ≡ false → first_place p (xs ++ x ∷ []) ≡ first_place p xs
+first_place-push_false : {X : Type 0} (p : X → Bool) (xs : List X) (x : X) → p x ≡ false
+    → first_place p (xs ++ x ∷ []) ≡ first_place p xs
 first_place-push_false p [] x h = rw h refl
 first_place-push_false p (y ∷ xs) x h = ap (λ (o : Option ℕ). cond (p y) (Some 0) (option_map (λ (k : ℕ). k + 1) o)) (first_place-push_false p xs x h)
 
@@ -52,7 +57,8 @@ sub_rows_of_range : (spec : Spec) (c : ComponentId) (a n : ℕ)
 sub_rows_of_range spec c a zero = tt
 sub_rows_of_range spec c a (suc n) = (row_of_range (Some (record { 0 = a })) 0 _, sub_rows_of_range spec c (a + 1) n)
 
-differs : (w : Wire) (s : Option SubId) (k : ℕ) → (w.target.port.0 ≡ k → w.target.sub ≡ s → ⊥) → same_target w.target (target s k) ≡ false
+differs : (w : Wire) (s : Option SubId) (k : ℕ) → (w.target.port.0 ≡ k → w.target.sub ≡ s → ⊥)
+    → same_target w.target (target s k) ≡ false
 differs w s k h = other_target w.target (target s k) (λ e. h (ap (λ (t : Target). t.port.0) e) (ap (λ (t : Target). t.sub) e))
 
 -- a connection to another port changes nothing in a row
@@ -72,13 +78,15 @@ same_parts x y m n e f = cc
 is_target : (u : Target) (s : Option SubId) (a : ℕ) → u.sub ≡ s → u.port.0 ≡ a → u ≡ target s a
 is_target u s a e g = same_parts u.sub s u.port.0 a e g
 
-matches : (w : Wire) (s : Option SubId) (a : ℕ) (t : Target) → t ≡ target s a → w.target.sub ≡ s → w.target.port.0 ≡ a → same_target w.target t ≡ true
+matches : (w : Wire) (s : Option SubId) (a : ℕ) (t : Target) → t ≡ target s a → w.target.sub ≡ s → w.target.port.0 ≡ a
+    → same_target w.target t ≡ true
 matches w s a t h e f =
     let same : w.target ≡ t = is_target w.target s a e f ∙ sym h in
     rw (← same) (same_target_itself w.target)
 
 -- a connection to a port of the row is noted there
-row_noted : (ws : List Wire) (w : Wire) (s : Option SubId) (a p : ℕ) (row : List Target) → IsRow s a row → w.target.sub ≡ s → w.target.port.0 ≡ a + p
+row_noted : (ws : List Wire) (w : Wire) (s : Option SubId) (a p : ℕ) (row : List Target) → IsRow s a row
+    → w.target.sub ≡ s → w.target.port.0 ≡ a + p
     → row_with_wire (map (first_wire ws) row) p (length ws) ≡ map (first_wire (ws ++ w ∷ [])) row
 row_noted ws w s a p [] h e f = refl
 row_noted ws w s a zero (t ∷ row) h e f =
@@ -93,7 +101,8 @@ row_noted ws w s a (suc p) (t ∷ row) h e f =
     cc (i, r)
 
 -- a connection to another row changes nothing in the rows of subcomponents from number a on
-rows_stay : (ws : List Wire) (w : Wire) (a : ℕ) (rows : List (List Target)) → AreSubRows a rows → row_of w.target.sub ≤ a
+rows_stay : (ws : List Wire) (w : Wire) (a : ℕ) (rows : List (List Target)) → AreSubRows a rows
+    → row_of w.target.sub ≤ a
     → map (map (first_wire ws)) rows ≡ map (map (first_wire (ws ++ w ∷ []))) rows
 rows_stay ws w a [] h l = refl
 rows_stay ws w a (row ∷ rows) h l =
@@ -109,7 +118,8 @@ sub_is : (s : Option SubId) (a : ℕ) → row_of s ≡ a + 1 → s ≡ Some (rec
 sub_is None a e = absurd (omega arith)
 sub_is (Some s) a e = let f : s.0 ≡ a = omega arith in ap (λ (n : ℕ). Some (record { 0 = n })) f
 
-sub_rows_noted : (ws : List Wire) (w : Wire) (a r : ℕ) (rows : List (List Target)) → AreSubRows a rows → row_of w.target.sub ≡ a + r + 1
+sub_rows_noted : (ws : List Wire) (w : Wire) (a r : ℕ) (rows : List (List Target)) → AreSubRows a rows
+    → row_of w.target.sub ≡ a + r + 1
     → rows_with_wire (map (map (first_wire ws)) rows) r w.target.port.0 (length ws) ≡ map (map (first_wire (ws ++ w ∷ []))) rows
 sub_rows_noted ws w a r [] h e = refl
 sub_rows_noted ws w a zero (row ∷ rows) h e =
@@ -130,7 +140,8 @@ none_is : (s : Option SubId) → row_of s ≡ 0 → s ≡ None
 none_is None e = refl
 none_is (Some s) e = absurd (omega arith)
 
-all_rows_noted : (ws : List Wire) (w : Wire) (r : ℕ) (own : List Target) (rows : List (List Target)) → IsRow None 0 own → AreSubRows 0 rows → row_of w.target.sub ≡ r
+all_rows_noted : (ws : List Wire) (w : Wire) (r : ℕ) (own : List Target) (rows : List (List Target))
+    → IsRow None 0 own → AreSubRows 0 rows → row_of w.target.sub ≡ r
     → rows_with_wire (map (map (first_wire ws)) (own ∷ rows)) r w.target.port.0 (length ws) ≡ map (map (first_wire (ws ++ w ∷ []))) (own ∷ rows)
 all_rows_noted ws w zero own rows h k e =
     let g = row_noted ws w None 0 w.target.port.0 own h (none_is w.target.sub e) (omega arith) in
@@ -177,7 +188,8 @@ sub_blank_is spec c a (sub ∷ subs) h =
 
 -- which ports are free
 
-free_is : (ws : List Wire) (t : Target) → is_none (find (λ (w : Wire). same_target w.target t) ws) ≡ is_none (first_wire ws t)
+free_is : (ws : List Wire) (t : Target)
+    → is_none (find (λ (w : Wire). same_target w.target t) ws) ≡ is_none (first_wire ws t)
 free_is [] t = refl
 free_is (w ∷ ws) t = step (same_target w.target t) (find (λ (w : Wire). same_target w.target t) ws) (first_wire ws t) (free_is ws t) where
   step : (b : Bool) (o : Option Wire) (q : Option ℕ) → is_none o ≡ is_none q
@@ -203,7 +215,8 @@ free_at free t [] post h e =
     rw (e, s) refl
 free_at free t (u ∷ us) post h e = step (free u) (free_at free t us post h.1 e) where
   step : (b : Bool) → position_or_len (same_target t) (filter free (us ++ t ∷ post)) ≡ length (filter free us)
-      → position_or_len (same_target t) (cond b (u ∷ filter free (us ++ t ∷ post)) (filter free (us ++ t ∷ post))) ≡ length (cond b (u ∷ filter free us) (filter free us))
+      → position_or_len (same_target t) (cond b (u ∷ filter free (us ++ t ∷ post)) (filter free (us ++ t ∷ post))) ≡ length
+      (cond b (u ∷ filter free us) (filter free us))
   step true g = place_step (same_target t u) true _ _ u [] h.0 g
   step false g = g
 
@@ -222,7 +235,8 @@ fresh_under s a (u ∷ us) h = (
   fresh_under s a us h.1,
 )
 
-under_more : (j a : ℕ) (us : List Target) (t : Target) → Under j a us → row_of t.sub ≡ j → t.port.0 ≡ a → Under j (a + 1) (us ++ t ∷ [])
+under_more : (j a : ℕ) (us : List Target) (t : Target) → Under j a us → row_of t.sub ≡ j → t.port.0 ≡ a
+    → Under j (a + 1) (us ++ t ∷ [])
 under_more j a [] t h e f = (inr (e, omega arith), tt)
 under_more j a (u ∷ us) t h e f =
     (elim h.0 [ inl l ↦ inl l | inr r ↦ inr (r.0, omega arith) ], under_more j a us t h.1 e f)
@@ -238,7 +252,8 @@ is_free spec c t = is_none (connection spec c t)
 
 -- the drivers of a row, from the place of its first free port on
 row_numbered : (spec : Spec) (c : ComponentId) (s : Option SubId) (n a : ℕ) (pre row post : List Target)
-    → all_ports spec c ≡ pre ++ (row ++ post) → IsRow s a row → Under (row_of s) a pre → n ≡ length (filter (is_free spec c) pre)
+    → all_ports spec c ≡ pre ++ (row ++ post) → IsRow s a row → Under (row_of s) a pre
+    → n ≡ length (filter (is_free spec c) pre)
     → drivers_of_row n (map (first_wire (wires_of spec c)) row) ≡ map (driver_of spec c) row
 row_numbered spec c s n a pre [] post all h under e = refl
 row_numbered spec c s n a pre (t ∷ row) post all h under e =
@@ -267,12 +282,15 @@ row_numbered spec c s n a pre (t ∷ row) post all h under e =
       fresh = rw h.0 (fresh_under s a pre under)
 
       step : (o : Option ℕ) → first_wire (wires_of spec c) t ≡ o
-          → ((m : ℕ) → m ≡ length (filter (is_free spec c) (pre ++ t ∷ [])) → drivers_of_row m (map (first_wire (wires_of spec c)) row) ≡ map (driver_of spec c) row)
-          → drivers_of_row n (o ∷ map (first_wire (wires_of spec c)) row) ≡ option_map_or driver.Wired o (driver.Free (free_place spec c t)) ∷ map (driver_of spec c) row
+          → ((m : ℕ) → m ≡ length (filter (is_free spec c) (pre ++ t ∷ [])) → drivers_of_row m (map (first_wire (wires_of spec c)) row) ≡ map
+          (driver_of spec c) row)
+          → drivers_of_row n (o ∷ map (first_wire (wires_of spec c)) row) ≡ option_map_or driver.Wired o (driver.Free (free_place spec c t)) ∷ map
+          (driver_of spec c) row
       step None f rest =
           let yes : is_free spec c t ≡ true = free ∙ ap is_none f in
           let place : free_place spec c t ≡ n =
-          ap (λ (all : List Target). position_or_len (same_target t) (filter (is_free spec c) all)) all ∙ free_at (is_free spec c) t pre (row ++ post) fresh yes ∙ sym e in
+          ap (λ (all : List Target). position_or_len (same_target t) (filter (is_free spec c) all)) all ∙ free_at (is_free spec c) t pre
+          (row ++ post) fresh yes ∙ sym e in
           let r = rest (n + 1) (sym (counted true yes)) in
           rw place (ap (λ (d : List Driver). driver.Free n ∷ d) r)
       step (Some w) f rest =
@@ -281,7 +299,8 @@ row_numbered spec c s n a pre (t ∷ row) post all h under e =
           let r = rest n (sym (counted false no ∙ z)) in
           ap (λ (d : List Driver). driver.Wired w ∷ d) r
 
-vacant_is : (spec : Spec) (c : ComponentId) (row : List Target) → vacant (map (first_wire (wires_of spec c)) row) ≡ length (filter (is_free spec c) row)
+vacant_is : (spec : Spec) (c : ComponentId) (row : List Target)
+    → vacant (map (first_wire (wires_of spec c)) row) ≡ length (filter (is_free spec c) row)
 vacant_is spec c [] = refl
 vacant_is spec c (t ∷ row) = step (first_wire (wires_of spec c) t) refl (vacant_is spec c row) where
   step : (o : Option ℕ) → first_wire (wires_of spec c) t ≡ o → vacant (map (first_wire (wires_of spec c)) row) ≡ length (filter (is_free spec c) row)
@@ -298,7 +317,8 @@ concat [] = []
 concat (row ∷ rows) = row ++ concat rows
 
 -- once a row is passed all of its ports stand before the next row
-under_row : (s : Option SubId) (a : ℕ) (pre row : List Target) → IsRow s a row → Under (row_of s) a pre → Under (row_of s + 1) 0 (pre ++ row)
+under_row : (s : Option SubId) (a : ℕ) (pre row : List Target) → IsRow s a row → Under (row_of s) a pre
+    → Under (row_of s + 1) 0 (pre ++ row)
 under_row s a pre [] h under = rw append-nil (under_next (row_of s) a pre under)
 under_row s a pre (t ∷ row) h under =
     let next = under_more (row_of s) a pre t under (ap (λ (u : Target). row_of u.sub) h.0) (ap (λ (u : Target). u.port.0) h.0) in
@@ -314,7 +334,8 @@ counted_row spec c n pre row e =
     rw (f, l, v, e) refl
 
 sub_rows_numbered : (spec : Spec) (c : ComponentId) (n a : ℕ) (pre : List Target) (rows : List (List Target))
-    → all_ports spec c ≡ pre ++ concat rows → AreSubRows a rows → Under (a + 1) 0 pre → n ≡ length (filter (is_free spec c) pre)
+    → all_ports spec c ≡ pre ++ concat rows → AreSubRows a rows → Under (a + 1) 0 pre
+    → n ≡ length (filter (is_free spec c) pre)
     → drivers_of_rows n (map (map (first_wire (wires_of spec c))) rows) ≡ map (map (driver_of spec c)) rows
 sub_rows_numbered spec c n a pre [] all h under e = refl
 sub_rows_numbered spec c n a pre (row ∷ rows) all h under e =

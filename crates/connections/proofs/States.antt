@@ -11,7 +11,8 @@ use Rattle.connections.proofs.Tells.{Tells, tells_not, tells_and, tells_or, tell
 
 -- a state expression reads one valuation alone
 
-pub state_number : (now next : Assignment) (n : Number) → IsStateNumber n → number_value now next n ≡ number_value now now n
+pub state_number : (now next : Assignment) (n : Number) → IsStateNumber n
+    → number_value now next n ≡ number_value now now n
 state_number now next (form.Literal z) s = refl
 state_number now next (form.NumberAt p true) s = cc
 state_number now next (form.NumberAt p false) s = refl
@@ -19,12 +20,14 @@ state_number now next (form.Sum a b) s = cc (state_number now next a s.0, state_
 state_number now next (form.Difference a b) s = cc (state_number now next a s.0, state_number now next b s.1)
 state_number now next (form.Opposite a) s = cc (state_number now next a s)
 
-pub state_choice : (now next : Assignment) (n : Choice) → IsStateChoice n → choice_name now next n ≡ choice_name now now n
+pub state_choice : (now next : Assignment) (n : Choice) → IsStateChoice n
+    → choice_name now next n ≡ choice_name now now n
 state_choice now next (form.Named n) s = refl
 state_choice now next (form.NameAt p true) s = cc
 state_choice now next (form.NameAt p false) s = refl
 
-pub state_test : (now next : Assignment) (t : Proposition) → IsStateTest t → proposition_truth now next t ≡ proposition_truth now now t
+pub state_test : (now next : Assignment) (t : Proposition) → IsStateTest t
+    → proposition_truth now next t ≡ proposition_truth now now t
 state_test now next (form.TruthAt p true) s = cc
 state_test now next (form.TruthAt p false) s = refl
 state_test now next (form.Equals a b) s = cc (state_number now next a s.0, state_number now next b s.1)
@@ -55,7 +58,8 @@ state_truth_decides w f i s = state_tells w i f s
 
 -- the same expression in the next valuation
 
-pub number-next : (now next : Assignment) (n : Number) → number_value now next (next_number n) ≡ number_value next next n
+pub number-next : (now next : Assignment) (n : Number)
+    → number_value now next (next_number n) ≡ number_value next next n
 number-next now next (form.Literal z) = refl
 number-next now next (form.NumberAt p true) = refl
 number-next now next (form.NumberAt p false) = refl
@@ -68,14 +72,16 @@ choice-next now next (form.Named n) = refl
 choice-next now next (form.NameAt p true) = refl
 choice-next now next (form.NameAt p false) = refl
 
-pub test-next : (now next : Assignment) (t : Proposition) → proposition_truth now next (next_test t) ≡ proposition_truth next next t
+pub test-next : (now next : Assignment) (t : Proposition)
+    → proposition_truth now next (next_test t) ≡ proposition_truth next next t
 test-next now next (form.TruthAt p true) = refl
 test-next now next (form.TruthAt p false) = refl
 test-next now next (form.Equals a b) = cc (number-next now next a, number-next now next b)
 test-next now next (form.AtMost a b) = cc (number-next now next a, number-next now next b)
 test-next now next (form.SameName a b) = cc (choice-next now next a, choice-next now next b)
 
-pub next_tells : (w : Trace) (i : ℕ) (f : Ltl) → IsState f → Tells (state_truth (w (i + 1)) f) (Holds w (next_formula f) i)
+pub next_tells : (w : Trace) (i : ℕ) (f : Ltl) → IsState f
+    → Tells (state_truth (w (i + 1)) f) (Holds w (next_formula f) i)
 next_tells w i form.True s = (λ h. refl, λ e. tt)
 next_tells w i form.False s = (λ h. absurd h, λ e. false≢true e)
 next_tells w i (form.Atomic a) s =

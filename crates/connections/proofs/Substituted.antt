@@ -14,7 +14,8 @@ use Rattle.architecture.specs.declared.wire.Source.{Source}
 use Rattle.architecture.specs.declared.wire.Source.TheVariants as source
 use Rattle.architecture.specs.Expressions.{ReadsBelow, TestReadsBelow, NumberReadsBelow, ChoiceReadsBelow}
 use Rattle.architecture.specs.Architecture.{IsWellFormed, IsStateSource, connection, free_place, ports_at, target}
-use Rattle.connections.specs.Substitution.{Reading, reading, source_reading, reading_value, readings, substituted, substituted_test, substituted_number, substituted_choice, truth_for, number_for, choice_for, IsStateReading}
+use Rattle.connections.specs.Substitution.{Reading, reading, source_reading, reading_value, readings, substituted, substituted_test, substituted_number}
+use Rattle.connections.specs.Substitution.{substituted_choice, truth_for, number_for, choice_for, IsStateReading}
 use Rattle.connections.specs.Substitution as by
 use Rattle.connections.specs.Laws.{SubstitutionKeepsTruth}
 use Rattle.connections.proofs.Tells.{Tells, either_along, reaches_along, released_along, sometime_along}
@@ -25,7 +26,8 @@ abbrev pub value_at : Assignment → Assignment → Reading → Bool → Value
 value_at now next r false = reading_value now r
 value_at now next r true = reading_value next r
 
-pub number_reading : (now next : Assignment) (r : Reading) (b : Bool) → IsStateReading r → as_number (value_at now next r b) ≡ number_value now next (number_for r b)
+pub number_reading : (now next : Assignment) (r : Reading) (b : Bool) → IsStateReading r
+    → as_number (value_at now next r b) ≡ number_value now next (number_for r b)
 number_reading now next (by.Free k) false s = refl
 number_reading now next (by.Free k) true s = refl
 number_reading now next (by.OfTruth f) false s = refl
@@ -35,7 +37,8 @@ number_reading now next (by.OfNumber n) true s = sym (number-next now next n)
 number_reading now next (by.OfChoice n) false s = refl
 number_reading now next (by.OfChoice n) true s = refl
 
-pub name_reading : (now next : Assignment) (r : Reading) (b : Bool) → IsStateReading r → as_name (value_at now next r b) ≡ choice_name now next (choice_for r b)
+pub name_reading : (now next : Assignment) (r : Reading) (b : Bool) → IsStateReading r
+    → as_name (value_at now next r b) ≡ choice_name now next (choice_for r b)
 name_reading now next (by.Free k) false s = refl
 name_reading now next (by.Free k) true s = refl
 name_reading now next (by.OfTruth f) false s = refl
@@ -45,7 +48,8 @@ name_reading now next (by.OfNumber n) true s = refl
 name_reading now next (by.OfChoice n) false s = sym (state_choice now next n s)
 name_reading now next (by.OfChoice n) true s = sym (choice-next now next n)
 
-pub truth_reading : (free : Trace) (i : ℕ) (r : Reading) (b : Bool) → IsStateReading r → Tells (as_truth (value_at (free i) (free (i + 1)) r b)) (Holds free (truth_for r b) i)
+pub truth_reading : (free : Trace) (i : ℕ) (r : Reading) (b : Bool) → IsStateReading r
+    → Tells (as_truth (value_at (free i) (free (i + 1)) r b)) (Holds free (truth_for r b) i)
 truth_reading free i (by.Free k) false s = (λ h. h, λ h. h)
 truth_reading free i (by.Free k) true s = (λ h. h, λ h. h)
 truth_reading free i (by.OfTruth f) false s = state_tells free i f s
@@ -65,7 +69,8 @@ pub read-follows : (n : ℕ) (by : ℕ → Reading) (free w : Trace) → Follows
 read-follows n by free w h i p true l = h.values (i + 1) p l
 read-follows n by free w h i p false l = h.values i p l
 
-pub number-follows : (n : ℕ) (by : ℕ → Reading) (free w : Trace) → Follows n by free w → (i : ℕ) (m : Number) → NumberReadsBelow n m
+pub number-follows : (n : ℕ) (by : ℕ → Reading) (free w : Trace) → Follows n by free w → (i : ℕ) (m : Number)
+    → NumberReadsBelow n m
     → number_value (w i) (w (i + 1)) m ≡ number_value (free i) (free (i + 1)) (substituted_number by m)
 number-follows n by free w h i (form.Literal z) l = refl
 number-follows n by free w h i (form.NumberAt p b) l =
@@ -74,7 +79,8 @@ number-follows n by free w h i (form.Sum a b) l = cc (number-follows n by free w
 number-follows n by free w h i (form.Difference a b) l = cc (number-follows n by free w h i a l.0, number-follows n by free w h i b l.1)
 number-follows n by free w h i (form.Opposite a) l = cc (number-follows n by free w h i a l)
 
-pub choice-follows : (n : ℕ) (by : ℕ → Reading) (free w : Trace) → Follows n by free w → (i : ℕ) (m : Choice) → ChoiceReadsBelow n m
+pub choice-follows : (n : ℕ) (by : ℕ → Reading) (free w : Trace) → Follows n by free w → (i : ℕ) (m : Choice)
+    → ChoiceReadsBelow n m
     → choice_name (w i) (w (i + 1)) m ≡ choice_name (free i) (free (i + 1)) (substituted_choice by m)
 choice-follows n by free w h i (form.Named z) l = refl
 choice-follows n by free w h i (form.NameAt p b) l =
@@ -83,7 +89,8 @@ choice-follows n by free w h i (form.NameAt p b) l =
 same_along : (b c : Bool) → b ≡ c → (b ≡ true) ↔ (c ≡ true)
 same_along b c e = (λ h. sym e ∙ h, λ h. e ∙ h)
 
-pub test_follows : (n : ℕ) (by : ℕ → Reading) (free w : Trace) → Follows n by free w → (i : ℕ) (t : Proposition) → TestReadsBelow n t
+pub test_follows : (n : ℕ) (by : ℕ → Reading) (free w : Trace) → Follows n by free w → (i : ℕ) (t : Proposition)
+    → TestReadsBelow n t
     → (proposition_truth (w i) (w (i + 1)) t ≡ true) ↔ Holds free (substituted_test by t) i
 test_follows n by free w h i (form.TruthAt p b) l =
     let e = ap as_truth (read-follows n by free w h i p b l) in
@@ -97,7 +104,8 @@ test_follows n by free w h i (form.SameName a b) l =
     same_along _ _ (cc (choice-follows n by free w h i a l.0, choice-follows n by free w h i b l.1))
 
 -- a formula and its substituted form have the same truth
-pub truth_follows : (n : ℕ) (by : ℕ → Reading) (free w : Trace) → Follows n by free w → (f : Ltl) → ReadsBelow n f → (i : ℕ)
+pub truth_follows : (n : ℕ) (by : ℕ → Reading) (free w : Trace) → Follows n by free w → (f : Ltl) → ReadsBelow n f
+    → (i : ℕ)
     → Holds w f i ↔ Holds free (substituted by f) i
 truth_follows n by free w h form.True l i = (λ x. x, λ x. x)
 truth_follows n by free w h form.False l i = (λ x. x, λ x. x)

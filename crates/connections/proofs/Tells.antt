@@ -35,10 +35,12 @@ tells_iff false false P Q h k = (λ x. refl, λ e. (λ p. absurd (false≢true (
 pub either_along : (P Q R S : Type 0) → (P → R) → (Q → S) → Either P Q → Either R S
 either_along P Q R S f g h = λ n m. h (λ p. n (f p)) (λ q. m (g q))
 
-pub reaches_along : (P Q R S : ℕ → Type 0) → ((j : ℕ) → P j → R j) → ((j : ℕ) → Q j → S j) → (i : ℕ) → HoldsUntil P Q i → HoldsUntil R S i
+pub reaches_along : (P Q R S : ℕ → Type 0) → ((j : ℕ) → P j → R j) → ((j : ℕ) → Q j → S j) → (i : ℕ)
+    → HoldsUntil P Q i → HoldsUntil R S i
 reaches_along P Q R S f g i h = λ n. h (λ j le q t. n j le (g j q) (λ k a b. f k (t k a b)))
 
-pub released_along : (P Q R S : ℕ → Type 0) → ((j : ℕ) → P j → R j) → ((j : ℕ) → Q j → S j) → (i : ℕ) → HoldsReleased P Q i → HoldsReleased R S i
+pub released_along : (P Q R S : ℕ → Type 0) → ((j : ℕ) → P j → R j) → ((j : ℕ) → Q j → S j) → (i : ℕ)
+    → HoldsReleased P Q i → HoldsReleased R S i
 released_along P Q R S f g i h = λ j le n t. h j le (λ q. n (g j q)) (λ k a b p. t k a b (f k p))
 
 pub sometime_along : (P R : ℕ → Type 0) → ((j : ℕ) → P j → R j) → (i : ℕ) → Sometime P i → Sometime R i

@@ -1,5 +1,5 @@
--- Serves proofs only: the tables of which drivers are made: a row for the component itself and one for each subcomponent,
--- and in it a cell for each port, which notes the first connection that drives it.
+-- Serves proofs only: the tables of which drivers are made: a row for the component itself and one for each
+-- subcomponent, and in it a cell for each port, which notes the first connection that drives it.
 use Rattle.std.specs.Prelude.{ℕ, zero, suc, ◌+◌, List, [], ◌∷◌, map, length, replicate, Option, Some, None}
 use Rattle.oss_base.specs.declared.ids.ComponentId.{ComponentId}
 use Rattle.oss_base.specs.declared.ids.SubId.{SubId}

@@ -1,10 +1,11 @@
-//! What drives each port that a refinement speaks of: its first connection, or nothing. `port_drivers` notes all connections in one
-//! table of cells.
+//! What drives each port that a refinement speaks of: its first connection, or nothing. `port_drivers` notes all
+//! connections in one table of cells.
 
 ghost use Rattle.std.specs.Prelude.{◌≡◌, ◌+◌, map, length, IfOk};
 ghost use Rattle.architecture.specs.Architecture.{free_targets};
 ghost use Rattle.connections.specs.Drivers.{driver_rows};
-ghost use Rattle.connections.specs.Tables.{port_counts, blank, row_of as row_number, row_with_wire, rows_with_wire, rows_with_wires, vacant, vacant_rows, drivers_of_row, drivers_of_rows};
+ghost use Rattle.connections.specs.Tables.{port_counts, blank, row_of as row_number, row_with_wire, rows_with_wire};
+ghost use Rattle.connections.specs.Tables.{rows_with_wires, vacant, vacant_rows, drivers_of_row, drivers_of_rows};
 
 use architecture::{Spec, Target, Wire};
 use oss_base::ComponentId;
@@ -104,7 +105,7 @@ fn note_wires(rows: &mut Vec<Items<Option<usize>>>, wires: &[Wire])
 }
 
 /// The drivers of a row, and the place of the next free port.
-#[tactic(auto, using(crate::proofs::Rows::numbered_push_some, crate::proofs::Rows::numbered_push_none, crate::proofs::Rows::vacant_push_some, crate::proofs::Rows::vacant_push_none))]
+#[tactic(auto, using(crate::proofs::Rows::numbered_push_some, crate::proofs::Rows::numbered_push_none, crate::proofs::Rows::vacant_push_some, crate::proofs::Rows::vacant_push_none,))]
 fn number_row(
     alloc: Global,
     row: &[Option<usize>],

@@ -1,5 +1,6 @@
 -- The neighbours after a link is written.
-use Rattle.std.proofs.Common.{◌≡◌, ◌≢◌, ◌<◌, ◌+◌, ◌⊎◌, ℕ, List, [], ◌∷◌, ◌++◌, length, get_or, set, Option, Some, None, refl, sym, ◌∙◌, ap, subst, inl, inr, arith, length-set}
+use Rattle.std.proofs.Common.{◌≡◌, ◌≢◌, ◌<◌, ◌+◌, ◌⊎◌, ℕ, List, [], ◌∷◌, ◌++◌, length, get_or, set, Option, Some, None, refl, sym, ◌∙◌, ap, subst, inl}
+use Rattle.std.proofs.Common.{inr, arith, length-set}
 use Rattle.std.specs.Option.{ForSome}
 use Rattle.std.proofs.lemmas.Bool.{cases_eq}
 use Rattle.std.proofs.lemmas.List.{get_or-set_same, get_or-set_other}
@@ -7,7 +8,8 @@ use Rattle.decision_queue.specs.declared.neighbours.Neighbours.{Neighbours}
 use Rattle.decision_queue.specs.Neighbours.{no_neighbours, neighbours_at, after_at, before_at, with_after, with_before, joined_pair, with_first}
 
 -- a reading of the neighbours that the written ones share stays
-read-set : (read : Neighbours → Option ℕ) (links : List Neighbours) (x : ℕ) (new : Neighbours) (y : ℕ) → x < length links
+read-set : (read : Neighbours → Option ℕ) (links : List Neighbours) (x : ℕ) (new : Neighbours) (y : ℕ)
+    → x < length links
     → read new ≡ read (neighbours_at links x)
     → read (neighbours_at (set links x new) y) ≡ read (neighbours_at links y)
 read-set read links x new y within same =

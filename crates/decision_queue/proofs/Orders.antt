@@ -1,5 +1,6 @@
 -- The order after a variable comes in or goes to the front.
-use Rattle.std.proofs.Common.{◌≡◌, ◌≢◌, ◌<◌, ◌≤◌, ◌+◌, ◌⊎◌, ◌↔◌, ℕ, List, [], ◌∷◌, ◌++◌, length, reverse, get_or, Option, Some, None, refl, sym, ◌∙◌, ap, subst, inl, inr, arith, length-append, append_assoc}
+use Rattle.std.proofs.Common.{◌≡◌, ◌≢◌, ◌<◌, ◌≤◌, ◌+◌, ◌⊎◌, ◌↔◌, ℕ, List, [], ◌∷◌, ◌++◌, length, reverse, get_or, Option, Some, None, refl, sym, ◌∙◌, ap}
+use Rattle.std.proofs.Common.{subst, inl, inr, arith, length-append, append_assoc}
 use Rattle.std.specs.Prelude.{nat_eq}
 use Rattle.std.specs.List.{Contains, slice_get}
 use Rattle.std.specs.Option.{ForSome}
@@ -12,9 +13,13 @@ use Rattle.clause_links.proofs.Members.{Cut, cut_at, has_head, has_tail, has_mid
 use Rattle.clause_links.proofs.Walks.{same_way, way_on, way_past, first_is, stands_once, goes_once, walk_whole}
 use Rattle.decision_queue.specs.declared.neighbours.Neighbours.{Neighbours}
 use Rattle.decision_queue.specs.Order.{IsOrder}
-use Rattle.decision_queue.specs.Neighbours.{no_neighbours, neighbours_at, after_at, before_at, with_after, joined_pair, with_first, last_without, with_last, first_with, order_of, IsLinkedOrder}
+use Rattle.decision_queue.specs.Neighbours.{no_neighbours, neighbours_at, after_at, before_at, with_after, joined_pair, with_first, last_without}
+use Rattle.decision_queue.specs.Neighbours.{with_last, first_with, order_of, IsLinkedOrder}
 use Rattle.decision_queue.proofs.Reversed.{reverse_cons, reverse_middle, reverse_last, ends_from, none_from, member_of_reverse, begins, way_longer}
-use Rattle.decision_queue.proofs.Linking.{after-with_after, after-with_after_other, before-with_after, length-with_after, length-joined_pair, after-joined_pair, after-joined_pair_other, before-joined_end, before-joined_pair, before-joined_pair_other, length-with_first, after-with_first, after-with_first_other, before-with_first, before-with_first_old, before-with_first_other}
+use Rattle.decision_queue.proofs.Linking.{after-with_after, after-with_after_other, before-with_after, length-with_after, length-joined_pair}
+use Rattle.decision_queue.proofs.Linking.{after-joined_pair, after-joined_pair_other, before-joined_end, before-joined_pair, before-joined_pair_other}
+use Rattle.decision_queue.proofs.Linking.{length-with_first, after-with_first, after-with_first_other, before-with_first, before-with_first_old}
+use Rattle.decision_queue.proofs.Linking.{before-with_first_other}
 
 -- the order that is walked is the list that is linked
 pub order_is : (links : List Neighbours) (first last : Option ℕ) (xs : List ℕ) → IsLinkedOrder links first last xs
@@ -164,7 +169,8 @@ backward_out links last init before var (a ∷ more) first is =
     ∙ append_assoc (reverse more) (a ∷ []) (var ∷ before ∷ reverse init) in
     let rest : reverse (init ++ before ∷ a ∷ more) ≡ reverse more ++ a ∷ before ∷ reverse init =
     backward_all init before a more in
-    subst (λ (o : Option ℕ). GoesThrough (before_at (joined_pair links before o)) (last_without last before o) (reverse (init ++ before ∷ a ∷ more))) (sym some)
+    subst (λ (o : Option ℕ). GoesThrough (before_at (joined_pair links before o)) (last_without last before o) (reverse (init ++ before ∷ a ∷ more)))
+    (sym some)
     (subst (λ (l : List ℕ). GoesThrough (before_at (joined_pair links before (Some a))) last l) (sym rest)
     (way_past (before_at links) (before_at (joined_pair links before (Some a))) last (reverse more) a var (before ∷ reverse init)
     (subst (λ (l : List ℕ). GoesThrough (before_at links) last l) all is.order.backward)
@@ -269,7 +275,8 @@ IsLinkedOrder-brought links first last xs before var is known is_before front ba
       known_after = after_within links (Some first) last xs var is known;
       is_before = is_before;
     } in
-    subst (λ (l : List ℕ). IsLinkedOrder (with_front links before var first) (Some var) (last_without last before (after_at links var)) (var ∷ l)) (sym rest)
+    subst (λ (l : List ℕ). IsLinkedOrder (with_front links before var first) (Some var) (last_without last before (after_at links var)) (var ∷ l))
+    (sym rest)
     (in_front links last init before var back first middle)
 
 -- ---- a variable more
@@ -308,7 +315,8 @@ first_stays links None xs init last n way e =
     let empty : xs ≡ [] = first_or_none xs (sym (first_is (after_at links) None xs way)) in
     absurd (omega (arith, ap length empty, ap length e, length-append init (last ∷ [])))
 
-pub IsLinkedOrder-longer : (links : List Neighbours) (first last : Option ℕ) (xs : List ℕ) → IsLinkedOrder links first last xs
+pub IsLinkedOrder-longer : (links : List Neighbours) (first last : Option ℕ) (xs : List ℕ)
+    → IsLinkedOrder links first last xs
     → IsLinkedOrder (with_last (links ++ new_last last
     ∷ []) last (length links)) (first_with first (length links)) (Some (length links)) (xs ++ length links ∷ [])
 IsLinkedOrder-longer links first None xs is =
@@ -381,7 +389,8 @@ grown_now links longer now first last first_now var xs is now_is longer_is var_i
     now_is ∙ ap (λ (l : List Neighbours). with_last l last var) longer_is ∙ ap (λ (v : ℕ). with_last (links ++ new_last last ∷ []) last v) var_is in
     subst (λ (v : ℕ). IsLinkedOrder now first_now (Some v) (xs ++ n ∷ [])) (sym var_is)
     (subst (λ (o : Option ℕ). IsLinkedOrder now o (Some n) (xs ++ n ∷ [])) (sym (first_is ∙ ap (λ (v : ℕ). first_with first v) var_is))
-    (subst (λ (l : List Neighbours). IsLinkedOrder l (first_with first n) (Some n) (xs ++ n ∷ [])) (sym links_are) (IsLinkedOrder-longer links first last xs is)))
+    (subst (λ (l : List Neighbours). IsLinkedOrder l (first_with first n) (Some n) (xs ++ n ∷ [])) (sym links_are)
+    (IsLinkedOrder-longer links first last xs is)))
 
 pub brought_now : (links now : List Neighbours) (first : ℕ) (last last_now : Option ℕ) (before var : ℕ) (xs : List ℕ)
     → IsLinkedOrder (with_front links before var first) (Some var) (last_without last before (after_at links var)) xs

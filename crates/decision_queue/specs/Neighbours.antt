@@ -1,6 +1,7 @@
 -- Serves proofs only: how the neighbours of the variables make up an order.
 
-use Rattle.std.specs.Prelude.{◌≡◌, ◌<◌, ◌↔◌, ℕ, List, length, reverse, Option, None, Some, Contains, slice_index_or, slice_set}
+use Rattle.std.specs.Prelude.{◌≡◌, ◌<◌, ◌↔◌, ℕ, List, length, reverse, Option, None, Some, Contains}
+use Rattle.std.specs.Prelude.{slice_index_or, slice_set}
 use Rattle.decision_queue.specs.declared.neighbours.Neighbours.{Neighbours}
 use Rattle.clause_links.specs.Records.{GoesThrough, walk}
 

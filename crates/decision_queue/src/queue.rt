@@ -1,6 +1,7 @@
 //! `DecisionQueue` and its calls.
 
-ghost use Rattle.std.specs.Prelude.{◌≡◌, ◌<◌, ◌∷◌, ◌++◌, ◌↔◌, ℕ, List, [], None, length, IsTrue, OnOk, OnErr, slice_get};
+ghost use Rattle.std.specs.Prelude.{◌≡◌, ◌<◌, ◌∷◌, ◌++◌, ◌↔◌, ℕ, List, [], None, length, IsTrue, OnOk, OnErr};
+ghost use Rattle.std.specs.Prelude.{slice_get};
 
 use crate::neighbours::{Neighbours, bring_first, first_of, last_of, put_last};
 use port_types::NoMemory;

@@ -1,4 +1,5 @@
-use Rattle.std.proofs.Common.{◌≡◌, ℕ, zero, suc, ◌+◌, ◌<◌, ◌⊎◌, Bool, true, false, not, cond, List, [], ◌∷◌, ◌++◌, map, length, Option, Some, slice_get, refl, sym, ap, ◌∙◌, inl, inr, arith}
+use Rattle.std.proofs.Common.{◌≡◌, ℕ, zero, suc, ◌+◌, ◌<◌, ◌⊎◌, Bool, true, false, not, cond, List, [], ◌∷◌, ◌++◌, map, length, Option, Some, slice_get}
+use Rattle.std.proofs.Common.{refl, sym, ap, ◌∙◌, inl, inr, arith}
 use Rattle.std.proofs.lemmas.Bool.{false≢true}
 use Rattle.std.specs.List.{flat_map, range_with_len, filter, position_or_len, find}
 
@@ -29,12 +30,14 @@ among_range a (suc n) (suc k) h =
     let e : a + 1 + k ≡ a + suc k = omega arith in
     inr (rw e at ih)
 
-pub among_flat_map : {X Y : Type 0} (f : X → List Y) (xs : List X) (x : X) (y : Y) → Among xs x → Among (f x) y → Among (flat_map f xs) y
+pub among_flat_map : {X Y : Type 0} (f : X → List Y) (xs : List X) (x : X) (y : Y) → Among xs x → Among (f x) y
+    → Among (flat_map f xs) y
 among_flat_map f [] x y h k = absurd h
 among_flat_map f (z ∷ xs) x y (inl e) k = among_append_left (f z) (flat_map f xs) y (rw e k)
 among_flat_map f (z ∷ xs) x y (inr h) k = among_append_right (f z) (flat_map f xs) y (among_flat_map f xs x y h k)
 
-pub among_filter_step : {X : Type 0} (b : Bool) (z x : X) (rest : List X) → (z ≡ x → b ≡ true) → (z ≡ x) ⊎ Among rest x → Among (cond b (z ∷ rest) rest) x
+pub among_filter_step : {X : Type 0} (b : Bool) (z x : X) (rest : List X) → (z ≡ x → b ≡ true)
+    → (z ≡ x) ⊎ Among rest x → Among (cond b (z ∷ rest) rest) x
 among_filter_step true z x rest p h = h
 among_filter_step false z x rest p (inl e) = absurd (false≢true (p e))
 among_filter_step false z x rest p (inr h) = h
@@ -52,7 +55,8 @@ get_at_position_step false z x xs m h k =
     let e : 1 + m ≡ suc m = omega arith in
     rw e (k refl)
 
-pub get_at_position : {X : Type 0} (p : X → Bool) (xs : List X) (x : X) → ((y : X) → p y ≡ true → y ≡ x) → p x ≡ true → Among xs x
+pub get_at_position : {X : Type 0} (p : X → Bool) (xs : List X) (x : X) → ((y : X) → p y ≡ true → y ≡ x) → p x ≡ true
+    → Among xs x
     → slice_get xs (position_or_len p xs) ≡ Some x
 get_at_position p [] x only t h = absurd h
 get_at_position p (z ∷ xs) x only t (inl e) =
@@ -66,7 +70,8 @@ below_length (y ∷ ys) zero x e = omega arith
 below_length (y ∷ ys) (suc n) x e = let h = below_length ys n x e in omega arith
 
 -- what `find` gives stands in the list and passes
-pub found_step : {X : Type 0} (p : X → Bool) (b : Bool) (z x : X) (o : Option X) (xs : List X) → p z ≡ b → cond b (Some z) o ≡ Some x
+pub found_step : {X : Type 0} (p : X → Bool) (b : Bool) (z x : X) (o : Option X) (xs : List X) → p z ≡ b
+    → cond b (Some z) o ≡ Some x
     → (o ≡ Some x → (n : ℕ) × (slice_get xs n ≡ Some x) × (p x ≡ true))
     → (n : ℕ) × (slice_get (z ∷ xs) n ≡ Some x) × (p x ≡ true)
 found_step p true z x o xs t e k =
@@ -74,6 +79,7 @@ found_step p true z x o xs t e k =
     (0, ap Some same, ap p (sym same) ∙ t)
 found_step p false z x o xs t e k = let r = k e in (suc r.0, r.1, r.2)
 
-pub found : {X : Type 0} (p : X → Bool) (xs : List X) (x : X) → find p xs ≡ Some x → (n : ℕ) × (slice_get xs n ≡ Some x) × (p x ≡ true)
+pub found : {X : Type 0} (p : X → Bool) (xs : List X) (x : X) → find p xs ≡ Some x
+    → (n : ℕ) × (slice_get xs n ≡ Some x) × (p x ≡ true)
 found p [] x e = cc
 found p (z ∷ xs) x e = found_step p (p z) z x (find p xs) xs refl e (found p xs x)

@@ -1,4 +1,5 @@
-use Rattle.std.proofs.Common.{◌≡◌, ℕ, zero, suc, ◌<◌, ◌⊎◌, ◌↔◌, Bool, true, false, cond, List, [], ◌∷◌, ◌++◌, map, length, Option, Some, None, slice_get, eqb, refl, sym, ap, ◌∙◌, inl, inr, arith}
+use Rattle.std.proofs.Common.{◌≡◌, ℕ, zero, suc, ◌<◌, ◌⊎◌, ◌↔◌, Bool, true, false, cond, List, [], ◌∷◌, ◌++◌, map, length, Option, Some, None, slice_get}
+use Rattle.std.proofs.Common.{eqb, refl, sym, ap, ◌∙◌, inl, inr, arith}
 use Rattle.std.proofs.lemmas.Bool.{false≢true, eqb-true, eq-eqb}
 use Rattle.std.specs.List.{filter}
 use Rattle.std.specs.Option.{option_map_or}
@@ -39,13 +40,15 @@ Found items c d = (item : Item) × (n : ℕ) × (slice_get items n ≡ Some item
 abbrev pub NotFound : List Item → ComponentId → ContractId → Type 0
 NotFound items c d = (item : Item) (n : ℕ) → slice_get items n ≡ Some item → item.component ≡ c → item.contract ≡ d → ⊥
 
-not_found_step : (x : Item) (xs : List Item) (c : ComponentId) (d : ContractId) → (x.component ≡ c → x.contract ≡ d → ⊥) → NotFound xs c d → NotFound (x ∷ xs) c d
+not_found_step : (x : Item) (xs : List Item) (c : ComponentId) (d : ContractId)
+    → (x.component ≡ c → x.contract ≡ d → ⊥) → NotFound xs c d → NotFound (x ∷ xs) c d
 not_found_step x xs c d differs h item zero e f g =
     let same : x ≡ item = cc in
     differs (ap (λ (i : Item). i.component) same ∙ f) (ap (λ (i : Item). i.contract) same ∙ g)
 not_found_step x xs c d differs h item (suc n) e f g = h item n e f g
 
-found_step : (x : Item) (xs : List Item) (c : ComponentId) (d : ContractId) (a b : Bool) → eqb x.component.0 c.0 ≡ a → eqb x.contract.0 d.0 ≡ b
+found_step : (x : Item) (xs : List Item) (c : ComponentId) (d : ContractId) (a b : Bool) → eqb x.component.0 c.0 ≡ a
+    → eqb x.contract.0 d.0 ≡ b
     → Found xs c d ⊎ NotFound xs c d → Found (x ∷ xs) c d ⊎ NotFound (x ∷ xs) c d
 found_step x xs c d true true e f h =
     inl (x, 0, refl, same_component _ _ (eqb-true _ _ e), same_contract _ _ (eqb-true _ _ f))
@@ -57,7 +60,8 @@ find_item : (items : List Item) (c : ComponentId) (d : ContractId) → Found ite
 find_item [] c d = inr (λ item n e f g. cc)
 find_item (x ∷ xs) c d = found_step x xs c d (eqb x.component.0 c.0) (eqb x.contract.0 d.0) refl refl (find_item xs c d)
 
-refined_or_not : (spec : Spec) (c : ComponentId) (d : ContractId) → ((item : Item) × IsRefinedBy spec c d item) ⊎ IsUnrefined spec c d
+refined_or_not : (spec : Spec) (c : ComponentId) (d : ContractId)
+    → ((item : Item) × IsRefinedBy spec c d item) ⊎ IsUnrefined spec c d
 refined_or_not spec c d = elim (find_item spec.items c d) [
   | inl r ↦ inl (r.0, record { stands = (r.1, r.2); component = r.3; contract = r.4 })
   | inr h ↦ inr (λ item r. h item r.stands.0 r.stands.1 r.component r.contract)
@@ -65,18 +69,22 @@ refined_or_not spec c d = elim (find_item spec.items c d) [
 
 -- the formulas of a contract read ports of its own component
 
-reads_option : (o : Option Contract) (n : ℕ) (part : Contract → Ltl) → ((k : Contract) → o ≡ Some k → ReadsBelow n (part k))
+reads_option : (o : Option Contract) (n : ℕ) (part : Contract → Ltl)
+    → ((k : Contract) → o ≡ Some k → ReadsBelow n (part k))
     → ReadsBelow n (option_map_or part o form.True)
 reads_option None n part h = tt
 reads_option (Some k) n part h = h k refl
 
-pub assumption_reads : (spec : Spec) → IsWellFormed spec → (c : ComponentId) (d : ContractId) → ReadsBelow (length (ports_of spec c)) (assumption spec c d)
+pub assumption_reads : (spec : Spec) → IsWellFormed spec → (c : ComponentId) (d : ContractId)
+    → ReadsBelow (length (ports_of spec c)) (assumption spec c d)
 assumption_reads spec well c d =
     reads_option (slice_get (contracts_of spec c) d.0) (length (ports_of spec c)) (λ (k : Contract). meaning k.assume) (λ k e. (well.contracts c d k e).0)
 
-pub guarantee_reads : (spec : Spec) → IsWellFormed spec → (c : ComponentId) (d : ContractId) → ReadsBelow (length (ports_of spec c)) (guarantee spec c d)
+pub guarantee_reads : (spec : Spec) → IsWellFormed spec → (c : ComponentId) (d : ContractId)
+    → ReadsBelow (length (ports_of spec c)) (guarantee spec c d)
 guarantee_reads spec well c d =
-    reads_option (slice_get (contracts_of spec c) d.0) (length (ports_of spec c)) (λ (k : Contract). meaning k.guarantee) (λ k e. (well.contracts c d k e).1)
+    reads_option (slice_get (contracts_of spec c) d.0) (length (ports_of spec c)) (λ (k : Contract). meaning k.guarantee)
+    (λ k e. (well.contracts c d k e).1)
 
 -- what is known of a system trace and the law of substitution
 pub record System (spec : Spec) (w : Path → Trace) : Type 0 where
@@ -86,12 +94,14 @@ pub record System (spec : Spec) (w : Path → Trace) : Type 0 where
   pub stable : TruthIsStable
 
 -- a formula of the instance itself, and its substituted form
-own_same : (spec : Spec) (w : Path → Trace) → System spec w → (p : Path) (c : ComponentId) → IsInstance spec p c → (f : Ltl) → ReadsBelow (length (ports_of spec c)) f
+own_same : (spec : Spec) (w : Path → Trace) → System spec w → (p : Path) (c : ComponentId) → IsInstance spec p c
+    → (f : Ltl) → ReadsBelow (length (ports_of spec c)) f
     → Holds (w p) f 0 ↔ Holds (around spec w p c) (substituted (readings spec c None) f) 0
 own_same spec w sys p c here f l =
     sys.keeps spec c None (around spec w p c) (w p) sys.well (connections_hold spec w p c here sys.trace None) f 0 l
 
-pub sub_reads : (spec : Spec) (o : Option ComponentId) (b : ComponentId) (f : Ltl) → o ≡ Some b → ReadsBelow (length (ports_of spec b)) f
+pub sub_reads : (spec : Spec) (o : Option ComponentId) (b : ComponentId) (f : Ltl) → o ≡ Some b
+    → ReadsBelow (length (ports_of spec b)) f
     → ReadsBelow (length (option_map_or (ports_of spec) o [])) f
 sub_reads spec None b f e l = cc
 sub_reads spec (Some a) b f e l =
@@ -99,7 +109,8 @@ sub_reads spec (Some a) b f e l =
     rw same l
 
 -- a formula of a subcomponent, and its substituted form
-sub_same : (spec : Spec) (w : Path → Trace) → System spec w → (p : Path) (c : ComponentId) → IsInstance spec p c → (s : SubId) (b : ComponentId)
+sub_same : (spec : Spec) (w : Path → Trace) → System spec w → (p : Path) (c : ComponentId) → IsInstance spec p c
+    → (s : SubId) (b : ComponentId)
     → sub_component spec c s ≡ Some b → (f : Ltl) → ReadsBelow (length (ports_of spec b)) f
     → Holds (w (s ∷ p)) f 0 ↔ Holds (around spec w p c) (substituted (readings spec c (Some s)) f) 0
 sub_same spec w sys p c here s b e f l =
@@ -107,12 +118,14 @@ sub_same spec w sys p c here s b e f l =
     (sub_reads spec (sub_component spec c s) b f e l)
 
 -- a reached contract is of an instance
-reached_instance : (spec : Spec) (k : ContractId) (p : Path) (c : ComponentId) (d : ContractId) → IsReached spec k p c d → IsInstance spec p c
+reached_instance : (spec : Spec) (k : ContractId) (p : Path) (c : ComponentId) (d : ContractId)
+    → IsReached spec k p c d → IsInstance spec p c
 reached_instance spec k [] c d r = r.0
 reached_instance spec k (s ∷ p) c d r = (r.0, reached_instance spec k p r.0 r.1 r.2, r.3)
 
 -- the normal form of a listed contract holds around, where it holds at the subcomponent
-listed_holds : (spec : Spec) (w : Path → Trace) → System spec w → (p : Path) (item : Item) → IsInstance spec p item.component → (part : Part)
+listed_holds : (spec : Spec) (w : Path → Trace) → System spec w → (p : Path) (item : Item)
+    → IsInstance spec p item.component → (part : Part)
     → (o : Option ComponentId) → sub_component spec item.component part.0 ≡ o
     → ((b : ComponentId) → o ≡ Some b → Holds (w (part.0 ∷ p)) (normal_form (assumption spec b part.1) (guarantee spec b part.1)) 0)
     → Holds (around spec w p item.component)
@@ -128,17 +141,20 @@ meets_append : (w : Trace) (q r : Question) → MeetsAll w q → MeetsAll w r �
 meets_append w [] r h k = k
 meets_append w (e ∷ q) r h k = (h.0, meets_append w q r h.1 k)
 
-meets_map : (w : Trace) (f : Part → Ltl) (parts : List Part) → ((n : ℕ) (part : Part) → slice_get parts n ≡ Some part → Holds w (f part) 0)
+meets_map : (w : Trace) (f : Part → Ltl) (parts : List Part)
+    → ((n : ℕ) (part : Part) → slice_get parts n ≡ Some part → Holds w (f part) 0)
     → MeetsAll w (map (λ (part : Part). (f part, true)) parts)
 meets_map w f [] h = tt
 meets_map w f (x ∷ xs) h = (h 0 x refl, meets_map w f xs (λ n part e. h (suc n) part e))
 
 meets_filter_step : (w : Trace) (f : Part → Ltl) (x : Part) (xs : List Part) (b : Bool) → Holds w (f x) 0
-    → MeetsAll w (map (λ (part : Part). (f part, true)) xs) → MeetsAll w (map (λ (part : Part). (f part, true)) (cond b (x ∷ xs) xs))
+    → MeetsAll w (map (λ (part : Part). (f part, true)) xs)
+    → MeetsAll w (map (λ (part : Part). (f part, true)) (cond b (x ∷ xs) xs))
 meets_filter_step w f x xs true h k = (h, k)
 meets_filter_step w f x xs false h k = k
 
-meets_filter : (w : Trace) (f : Part → Ltl) (p : Part → Bool) (parts : List Part) → ((n : ℕ) (part : Part) → slice_get parts n ≡ Some part → Holds w (f part) 0)
+meets_filter : (w : Trace) (f : Part → Ltl) (p : Part → Bool) (parts : List Part)
+    → ((n : ℕ) (part : Part) → slice_get parts n ≡ Some part → Holds w (f part) 0)
     → MeetsAll w (map (λ (part : Part). (f part, true)) (filter p parts))
 meets_filter w f p [] h = tt
 meets_filter w f p (x ∷ xs) h = meets_filter_step w f x (filter p xs) (p x) (h 0 x refl) (meets_filter w f p xs (λ n part e. h (suc n) part e))
@@ -154,10 +170,12 @@ abbrev pub HasNormalForm : Spec → (Path → Trace) → Path → ComponentId �
 HasNormalForm spec w p c d = Holds (w p) (normal_form (assumption spec c d) (guarantee spec c d)) 0
 
 -- the listed contracts' normal forms hold around an instance
-parts_hold : (spec : Spec) (w : Path → Trace) (k : ContractId) → Premises spec w k → (p : Path) (c : ComponentId) (d : ContractId) (item : Item)
+parts_hold : (spec : Spec) (w : Path → Trace) (k : ContractId) → Premises spec w k
+    → (p : Path) (c : ComponentId) (d : ContractId) (item : Item)
     → IsReached spec k p c d → IsRefinedBy spec c d item
     → ((s : SubId) (b : ComponentId) (e : ContractId) → sub_component spec c s ≡ Some b → IsReached spec k (s ∷ p) b e → HasNormalForm spec w (s ∷ p) b e)
-    → (n : ℕ) (part : Part) → slice_get item.parts n ≡ Some part → Holds (around spec w p item.component) (listed_normal_form spec item part) 0
+    → (n : ℕ) (part : Part) → slice_get item.parts n ≡ Some part
+    → Holds (around spec w p item.component) (listed_normal_form spec item part) 0
 parts_hold spec w k pre p c d item r by h n part e =
     let here : IsInstance spec p item.component = rw by.component (reached_instance spec k p c d r) in
     listed_holds spec w pre.system p item here part (sub_component spec item.component part.0) refl
@@ -166,15 +184,18 @@ parts_hold spec w k pre p c d item r by h n part e =
     h part.0 b part.1 g (c, d, r, g, (item, by, n, e)))
 
 -- one step up: where the listed contracts have their normal forms, so has the refined one
-step_up : (spec : Spec) (w : Path → Trace) (k : ContractId) → Premises spec w k → (p : Path) (c : ComponentId) (d : ContractId) (item : Item)
+step_up : (spec : Spec) (w : Path → Trace) (k : ContractId) → Premises spec w k
+    → (p : Path) (c : ComponentId) (d : ContractId) (item : Item)
     → IsReached spec k p c d → IsRefinedBy spec c d item
     → ((s : SubId) (b : ComponentId) (e : ContractId) → sub_component spec c s ≡ Some b → IsReached spec k (s ∷ p) b e → HasNormalForm spec w (s ∷ p) b e)
     → HasNormalForm spec w p item.component item.contract
 step_up spec w k pre p c d item r by h =
     let sys = pre.system in
     let here : IsInstance spec p item.component = rw by.component (reached_instance spec k p c d r) in
-    let a = own_same spec w sys p item.component here (assumption spec item.component item.contract) (assumption_reads spec sys.well item.component item.contract) in
-    let g = own_same spec w sys p item.component here (guarantee spec item.component item.contract) (guarantee_reads spec sys.well item.component item.contract) in
+    let a = own_same spec w sys p item.component here (assumption spec item.component item.contract)
+    (assumption_reads spec sys.well item.component item.contract) in
+    let g = own_same spec w sys p item.component here (guarantee spec item.component item.contract)
+    (guarantee_reads spec sys.well item.component item.contract) in
     let valid = pre.valid p c d r item by in
     λ x. sys.stable (w p) (guarantee spec item.component item.contract) 0 (λ no.
     valid.entailed (around spec w p item.component) (typed_around spec w p item.component here sys.trace)
@@ -182,7 +203,8 @@ step_up spec w k pre p c d item r by h =
     (a.0 x, ((λ y. no (g.1 y)), tt))))
 
 -- every reached contract has its normal form, by the rank of its component
-normal_forms : (spec : Spec) (w : Path → Trace) (k : ContractId) → Premises spec w k → (rank : ℕ → ℕ) → FallsAlongSubs spec rank → (n : ℕ)
+normal_forms : (spec : Spec) (w : Path → Trace) (k : ContractId) → Premises spec w k → (rank : ℕ → ℕ)
+    → FallsAlongSubs spec rank → (n : ℕ)
     → (p : Path) (c : ComponentId) (d : ContractId) → IsReached spec k p c d → rank c.0 < n → HasNormalForm spec w p c d
 normal_forms spec w k pre rank falls zero p c d r l = absurd (omega arith)
 normal_forms spec w k pre rank falls (suc n) p c d r l = elim (refined_or_not spec c d) [
@@ -194,15 +216,18 @@ normal_forms spec w k pre rank falls (suc n) p c d r l = elim (refined_or_not sp
 ]
 
 -- one step down: the assumption of a listed contract
-step_down : (spec : Spec) (w : Path → Trace) (k : ContractId) → Premises spec w k → ((p : Path) (c : ComponentId) (d : ContractId) → IsReached spec k p c d → HasNormalForm spec w p c d)
+step_down : (spec : Spec) (w : Path → Trace) (k : ContractId) → Premises spec w k
+    → ((p : Path) (c : ComponentId) (d : ContractId) → IsReached spec k p c d → HasNormalForm spec w p c d)
     → (p : Path) (c : ComponentId) (d : ContractId) (item : Item) → IsReached spec k p c d → IsRefinedBy spec c d item
     → Holds (w p) (assumption spec item.component item.contract) 0
-    → (s : SubId) (b : ComponentId) (e : ContractId) → sub_component spec item.component s ≡ Some b → (n : ℕ) → slice_get item.parts n ≡ Some (s, e)
+    → (s : SubId) (b : ComponentId) (e : ContractId) → sub_component spec item.component s ≡ Some b → (n : ℕ)
+    → slice_get item.parts n ≡ Some (s, e)
     → Holds (w (s ∷ p)) (assumption spec b e) 0
 step_down spec w k pre up p c d item r by x s b e f n at =
     let sys = pre.system in
     let here : IsInstance spec p item.component = rw by.component (reached_instance spec k p c d r) in
-    let a = own_same spec w sys p item.component here (assumption spec item.component item.contract) (assumption_reads spec sys.well item.component item.contract) in
+    let a = own_same spec w sys p item.component here (assumption spec item.component item.contract)
+    (assumption_reads spec sys.well item.component item.contract) in
     let g = sub_same spec w sys p item.component here s b f (assumption spec b e) (assumption_reads spec sys.well b e) in
     let valid = pre.valid p c d r item by in
     sys.stable (w (s ∷ p)) (assumption spec b e) 0 (λ no.
@@ -217,8 +242,10 @@ step_down spec w k pre up p c d item r by x s b e f n at =
           → Holds (around spec w p item.component) (substituted (readings spec item.component (Some s)) (assumption spec b e)) 0
       part_same y = rw f at y
 
-assumptions : (spec : Spec) (w : Path → Trace) (k : ContractId) → Premises spec w k → ((p : Path) (c : ComponentId) (d : ContractId) → IsReached spec k p c d → HasNormalForm spec w p c d)
-    → Holds (w []) (assumption spec spec.system k) 0 → (p : Path) (c : ComponentId) (d : ContractId) → IsReached spec k p c d → Holds (w p) (assumption spec c d) 0
+assumptions : (spec : Spec) (w : Path → Trace) (k : ContractId) → Premises spec w k
+    → ((p : Path) (c : ComponentId) (d : ContractId) → IsReached spec k p c d → HasNormalForm spec w p c d)
+    → Holds (w []) (assumption spec spec.system k) 0 → (p : Path) (c : ComponentId) (d : ContractId)
+    → IsReached spec k p c d → Holds (w p) (assumption spec c d) 0
 assumptions spec w k pre up x [] c d r = rw (r.0, r.1) x
 assumptions spec w k pre up x (s ∷ p) b e r =
     let item = r.4.0 in
@@ -229,8 +256,14 @@ assumptions spec w k pre up x (s ∷ p) b e r =
 
 pub contracts_compose : TruthIsStable → SubstitutionKeepsTruth → ContractsCompose
 contracts_compose stable keeps spec k well valid w trace leaves x =
-    let pre : Premises spec w k = record { system = record { well = well; trace = trace; keeps = keeps; stable = stable }; valid = valid; leaves = leaves } in
-    let up = λ (p : Path) (c : ComponentId) (d : ContractId) (r : IsReached spec k p c d). normal_forms spec w k pre well.acyclic.0 well.acyclic.1 (suc (well.acyclic.0 c.0)) p c d r (omega arith) in
+    let pre : Premises spec w k = record {
+      system = record { well = well; trace = trace; keeps = keeps; stable = stable };
+      valid = valid;
+      leaves =
+          leaves;
+    } in
+    let up = λ (p : Path) (c : ComponentId) (d : ContractId) (r : IsReached spec k p c d). normal_forms spec w k pre well.acyclic.0 well.acyclic.1
+    (suc (well.acyclic.0 c.0)) p c d r (omega arith) in
     record {
       guaranteed = up [] spec.system k (refl, refl) x;
       assumed = assumptions spec w k pre up x;

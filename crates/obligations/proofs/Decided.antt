@@ -1,5 +1,6 @@
 use Rattle.architecture.specs.Propositional.{IsPropositional, IsPropositionalSpec}
-use Rattle.std.proofs.Common.{◌≡◌, ℕ, zero, suc, ◌+◌, ◌<◌, Bool, true, false, not, ◌&&◌, ◌||◌, cond, List, [], ◌∷◌, ◌++◌, map, length, get_or, take, Option, Some, None, option_map, slice_get, IfSome, refl, sym, ap, ◌∙◌, inl, inr, arith}
+use Rattle.std.proofs.Common.{◌≡◌, ℕ, zero, suc, ◌+◌, ◌<◌, Bool, true, false, not, ◌&&◌, ◌||◌, cond, List, [], ◌∷◌, ◌++◌, map, length, get_or, take}
+use Rattle.std.proofs.Common.{Option, Some, None, option_map, slice_get, IfSome, refl, sym, ap, ◌∙◌, inl, inr, arith}
 use Rattle.std.proofs.lemmas.Bool.{false≢true}
 use Rattle.std.proofs.lemmas.List.{take_more}
 use Rattle.std.specs.List.{find, list_all, filter}
@@ -28,7 +29,8 @@ use Rattle.connections.specs.Substitution.{readings, state_truth, substituted}
 use Rattle.connections.specs.Laws.{StateTruthDecides}
 use Rattle.obligations.specs.declared.table.Truths.{Truths}
 use Rattle.obligations.specs.declared.table.TableLine.{TableLine}
-use Rattle.obligations.specs.Levels.{Part, Question, assumption, guarantee, part_assumption, part_guarantee, level_assumption, level_guarantee, listed_assumption, listed_normal_form, entails, assumes, is_of_another_sub, Meets, MeetsAll, IsFreeTrace}
+use Rattle.obligations.specs.Levels.{Part, Question, assumption, guarantee, part_assumption, part_guarantee, level_assumption, level_guarantee}
+use Rattle.obligations.specs.Levels.{listed_assumption, listed_normal_form, entails, assumes, is_of_another_sub, Meets, MeetsAll, IsFreeTrace}
 use Rattle.obligations.specs.Valuations.{boolean, boolean_values, valuations, breaks, first_breaking, boolean_truth}
 use Rattle.obligations.specs.Tables.{meets, others_meet, assume_at, breaks_entails, breaks_assumes, part_truths, table_line}
 use Rattle.typed_ltl.specs.declared.lasso.Verdict.{Verdict}
@@ -41,34 +43,42 @@ use Rattle.obligations.proofs.Valued.{substituted_truth, substituted_proposition
 
 -- the formulas of contracts are propositional
 
-propositional_option : (o : Option Contract) (part : Contract → Ltl) → ((k : Contract) → o ≡ Some k → IsPropositional (part k)) → IsPropositional (option_map_or part o form.True)
+propositional_option : (o : Option Contract) (part : Contract → Ltl)
+    → ((k : Contract) → o ≡ Some k → IsPropositional (part k)) → IsPropositional (option_map_or part o form.True)
 propositional_option None part h = tt
 propositional_option (Some k) part h = h k refl
 
-assumption_propositional : (spec : Spec) → IsPropositionalSpec spec → (c : ComponentId) (d : ContractId) → IsPropositional (assumption spec c d)
+assumption_propositional : (spec : Spec) → IsPropositionalSpec spec → (c : ComponentId) (d : ContractId)
+    → IsPropositional (assumption spec c d)
 assumption_propositional spec ok c d =
     propositional_option (slice_get (contracts_of spec c) d.0) (λ (k : Contract). meaning k.assume) (λ k e. (ok.contracts c d.0 k e).0)
 
-guarantee_propositional : (spec : Spec) → IsPropositionalSpec spec → (c : ComponentId) (d : ContractId) → IsPropositional (guarantee spec c d)
+guarantee_propositional : (spec : Spec) → IsPropositionalSpec spec → (c : ComponentId) (d : ContractId)
+    → IsPropositional (guarantee spec c d)
 guarantee_propositional spec ok c d =
     propositional_option (slice_get (contracts_of spec c) d.0) (λ (k : Contract). meaning k.guarantee) (λ k e. (ok.contracts c d.0 k e).1)
 
-part_option : (spec : Spec) (o : Option ComponentId) (f : ComponentId → Ltl) → ((b : ComponentId) → IsPropositional (f b)) → ((b : ComponentId) → ReadsBelow (length (ports_of spec b)) (f b))
+part_option : (spec : Spec) (o : Option ComponentId) (f : ComponentId → Ltl)
+    → ((b : ComponentId) → IsPropositional (f b)) → ((b : ComponentId) → ReadsBelow (length (ports_of spec b)) (f b))
     → IsPropositional (option_map_or f o form.True) × ReadsBelow (length (option_map_or (ports_of spec) o [])) (option_map_or f o form.True)
 part_option spec None f h l = (tt, tt)
 part_option spec (Some b) f h l = (h b, l b)
 
 -- the truth values of the table are those of the level's formulas
 
-own_truth : (spec : Spec) → IsPropositionalSpec spec → (c : ComponentId) (free : List Bool) (f : Ltl) → IsPropositional f → ReadsBelow (length (ports_of spec c)) f
+own_truth : (spec : Spec) → IsPropositionalSpec spec → (c : ComponentId) (free : List Bool) (f : Ltl)
+    → IsPropositional f → ReadsBelow (length (ports_of spec c)) f
     → boolean_truth (get_or (table_values spec c free) 0 []) f ≡ state_truth (boolean free) (substituted (readings spec c None) f)
 own_truth spec ok c free f h l =
-    substituted_truth (length (ports_of spec c)) (readings spec c None) free (get_or (table_values spec c free) 0 []) (own_gives spec c free (ok.wires c)) f h l
+    substituted_truth (length (ports_of spec c)) (readings spec c None) free (get_or (table_values spec c free) 0 [])
+    (own_gives spec c free (ok.wires c)) f h l
 
-sub_truth : (spec : Spec) → IsPropositionalSpec spec → (c : ComponentId) (free : List Bool) (s : SubId) (f : Ltl) → IsPropositional f → ReadsBelow (length (ports_at spec c (Some s))) f
+sub_truth : (spec : Spec) → IsPropositionalSpec spec → (c : ComponentId) (free : List Bool) (s : SubId) (f : Ltl)
+    → IsPropositional f → ReadsBelow (length (ports_at spec c (Some s))) f
     → boolean_truth (get_or (table_values spec c free) (s.0 + 1) []) f ≡ state_truth (boolean free) (substituted (readings spec c (Some s)) f)
 sub_truth spec ok c free s f h l =
-    substituted_truth (length (ports_at spec c (Some s))) (readings spec c (Some s)) free (get_or (table_values spec c free) (s.0 + 1) []) (sub_gives spec c free (ok.wires c) s) f h l
+    substituted_truth (length (ports_at spec c (Some s))) (readings spec c (Some s)) free (get_or (table_values spec c free) (s.0 + 1) [])
+    (sub_gives spec c free (ok.wires c) s) f h l
 
 and_same : (a b c d : Bool) → a ≡ c → b ≡ d → (a && b) ≡ (c && d)
 and_same a b c d e f = cc
@@ -98,13 +108,15 @@ part_assume spec ok item free part =
     sub_truth spec ok item.component free part.0 (part_assumption spec item.component part) a.0 a.1
 
 level_assume : (spec : Spec) → IsPropositionalSpec spec → (item : Item) (free : List Bool)
-    → boolean_truth (get_or (table_values spec item.component free) 0 []) (assumption spec item.component item.contract) ≡ state_truth (boolean free) (level_assumption spec item)
+    → boolean_truth (get_or (table_values spec item.component free) 0 []) (assumption spec item.component item.contract) ≡ state_truth (boolean free)
+    (level_assumption spec item)
 level_assume spec ok item free =
     own_truth spec ok item.component free (assumption spec item.component item.contract)
     (assumption_propositional spec ok item.component item.contract) (assumption_reads spec ok.well item.component item.contract)
 
 level_guaranteed : (spec : Spec) → IsPropositionalSpec spec → (item : Item) (free : List Bool)
-    → boolean_truth (get_or (table_values spec item.component free) 0 []) (guarantee spec item.component item.contract) ≡ state_truth (boolean free) (level_guarantee spec item)
+    → boolean_truth (get_or (table_values spec item.component free) 0 []) (guarantee spec item.component item.contract) ≡ state_truth (boolean free)
+    (level_guarantee spec item)
 level_guaranteed spec ok item free =
     own_truth spec ok item.component free (guarantee spec item.component item.contract)
     (guarantee_propositional spec ok item.component item.contract) (guarantee_reads spec ok.well item.component item.contract)
@@ -141,7 +153,8 @@ filter_step : (spec : Spec) (item : Item) (free : List Bool) (b m : Bool) (part 
 filter_step spec item free true m part rest z e f = and_same _ _ _ _ e f
 filter_step spec item free false m part rest z e f = f
 
-other_parts : (spec : Spec) → IsPropositionalSpec spec → (item : Item) (free : List Bool) (part : Part) (parts : List Part)
+other_parts : (spec : Spec) → IsPropositionalSpec spec
+    → (item : Item) (free : List Bool) (part : Part) (parts : List Part)
     → others_meet part parts (map (part_truths spec item.component (table_values spec item.component free)) parts)
     ≡ breaks free (map (λ (p : Part). (listed_normal_form spec item p, true)) (filter (is_of_another_sub part) parts))
 other_parts spec ok item free part [] = refl
@@ -149,12 +162,14 @@ other_parts spec ok item free part (p ∷ parts) =
     filter_step spec item free (is_of_another_sub part p) (meets (part_truths spec item.component (table_values spec item.component free) p)) p
     (filter (is_of_another_sub part) parts) _ (part_meets spec ok item free p) (other_parts spec ok item free part parts)
 
-assume_at_map : (f : Part → Truths) (parts : List Part) (n : ℕ) (part : Part) → slice_get parts n ≡ Some part → assume_at (map f parts) n ≡ (f part).assume
+assume_at_map : (f : Part → Truths) (parts : List Part) (n : ℕ) (part : Part) → slice_get parts n ≡ Some part
+    → assume_at (map f parts) n ≡ (f part).assume
 assume_at_map f [] n part e = cc
 assume_at_map f (p ∷ parts) zero part e = let same : p ≡ part = cc in ap (λ (q : Part). (f q).assume) same
 assume_at_map f (p ∷ parts) (suc n) part e = assume_at_map f parts n part e
 
-pub assumes_line : (spec : Spec) → IsPropositionalSpec spec → (item : Item) (free : List Bool) (n : ℕ) (part : Part) → slice_get item.parts n ≡ Some part
+pub assumes_line : (spec : Spec) → IsPropositionalSpec spec → (item : Item) (free : List Bool) (n : ℕ) (part : Part)
+    → slice_get item.parts n ≡ Some part
     → breaks_assumes item.parts n part (table_line spec item (driver_rows spec item.component) free) ≡ breaks free (assumes spec item part)
 assumes_line spec ok item free n part e =
     let f = assume_at_map (part_truths spec item.component (table_values spec item.component free)) item.parts n part e in
@@ -165,12 +180,14 @@ assumes_line spec ok item free n part e =
 
 -- a search in the table is a search among the valuations
 
-find_line_step : (b : Bool) (r : TableLine) (x : List Bool) (o : Option TableLine) (q : Option (List Bool)) → r.free ≡ x → option_map (λ (row : TableLine). row.free) o ≡ q
+find_line_step : (b : Bool) (r : TableLine) (x : List Bool) (o : Option TableLine) (q : Option (List Bool))
+    → r.free ≡ x → option_map (λ (row : TableLine). row.free) o ≡ q
     → option_map (λ (row : TableLine). row.free) (cond b (Some r) o) ≡ cond b (Some x) q
 find_line_step true r x o q e f = ap Some e
 find_line_step false r x o q e f = f
 
-pub find_line : (p : TableLine → Bool) (test : List Bool → Bool) (line : List Bool → TableLine) → ((bs : List Bool) → p (line bs) ≡ test bs) → ((bs : List Bool) → (line bs).free ≡ bs)
+pub find_line : (p : TableLine → Bool) (test : List Bool → Bool) (line : List Bool → TableLine)
+    → ((bs : List Bool) → p (line bs) ≡ test bs) → ((bs : List Bool) → (line bs).free ≡ bs)
     → (xs : List (List Bool)) → option_map (λ (row : TableLine). row.free) (find p (map line xs)) ≡ find test xs
 find_line p test line agree keeps [] = refl
 find_line p test line agree keeps (x ∷ xs) =
@@ -184,20 +201,24 @@ among_valuations [] zero e = inl refl
 among_valuations [] (suc n) e = absurd (omega arith)
 among_valuations (b ∷ bs) zero e = absurd (omega arith)
 among_valuations (true ∷ bs) (suc n) e =
-    among_append_right (map (λ (r : List Bool). false ∷ r) (valuations n)) _ _ (among_map (λ (r : List Bool). true ∷ r) (valuations n) bs (among_valuations bs n (omega arith)))
+    among_append_right (map (λ (r : List Bool). false ∷ r) (valuations n)) _ _
+    (among_map (λ (r : List Bool). true ∷ r) (valuations n) bs (among_valuations bs n (omega arith)))
 among_valuations (false ∷ bs) (suc n) e =
-    among_append_left _ (map (λ (r : List Bool). true ∷ r) (valuations n)) _ (among_map (λ (r : List Bool). false ∷ r) (valuations n) bs (among_valuations bs n (omega arith)))
+    among_append_left _ (map (λ (r : List Bool). true ∷ r) (valuations n)) _
+    (among_map (λ (r : List Bool). false ∷ r) (valuations n) bs (among_valuations bs n (omega arith)))
 
 none_step : (b : Bool) (z : List Bool) (o : Option (List Bool)) → cond b (Some z) o ≡ None → (b ≡ false) × (o ≡ None)
 none_step true z o e = cc
 none_step false z o e = (refl, e)
 
-pub none_passes : (p : List Bool → Bool) (xs : List (List Bool)) (x : List Bool) → find p xs ≡ None → Among xs x → p x ≡ false
+pub none_passes : (p : List Bool → Bool) (xs : List (List Bool)) (x : List Bool) → find p xs ≡ None → Among xs x
+    → p x ≡ false
 none_passes p [] x e h = absurd h
 none_passes p (z ∷ xs) x e (inl same) = ap p (sym same) ∙ (none_step (p z) z (find p xs) e).0
 none_passes p (z ∷ xs) x e (inr h) = none_passes p xs x (none_step (p z) z (find p xs) e).1 h
 
-some_step : (p : List Bool → Bool) (b : Bool) (z x : List Bool) (o : Option (List Bool)) → p z ≡ b → (o ≡ Some x → p x ≡ true) → cond b (Some z) o ≡ Some x → p x ≡ true
+some_step : (p : List Bool → Bool) (b : Bool) (z x : List Bool) (o : Option (List Bool)) → p z ≡ b
+    → (o ≡ Some x → p x ≡ true) → cond b (Some z) o ≡ Some x → p x ≡ true
 some_step p true z x o e h f = let same : z ≡ x = cc in rw (← same) e
 some_step p false z x o e h f = h f
 
@@ -214,13 +235,15 @@ length-truths_from : (w : Assignment) (a n : ℕ) → length (truths_from w a n)
 length-truths_from w a zero = refl
 length-truths_from w a (suc n) = ap suc (length-truths_from w (a + 1) n)
 
-truths_from_at : (w : Assignment) (a n k : ℕ) → k < n → as_truth (get_or (boolean_values (truths_from w a n)) k (value.Bool false)) ≡ as_truth (w (a + k))
+truths_from_at : (w : Assignment) (a n k : ℕ) → k < n
+    → as_truth (get_or (boolean_values (truths_from w a n)) k (value.Bool false)) ≡ as_truth (w (a + k))
 truths_from_at w a zero k l = absurd (omega arith)
 truths_from_at w a (suc n) zero l = let e : a + 0 ≡ a = omega arith in rw e refl
 truths_from_at w a (suc n) (suc k) l = let e : a + 1 + k ≡ a + suc k = omega arith in rw (← e) (truths_from_at w (a + 1) n k (omega arith))
 
 -- propositional formulas see only the truth values of the ports that they read
-same_truth : (u v : Assignment) (n : ℕ) → ((k : ℕ) → k < n → as_truth (u k) ≡ as_truth (v k)) → (f : Ltl) → IsPropositional f → ReadsBelow n f → state_truth u f ≡ state_truth v f
+same_truth : (u v : Assignment) (n : ℕ) → ((k : ℕ) → k < n → as_truth (u k) ≡ as_truth (v k)) → (f : Ltl)
+    → IsPropositional f → ReadsBelow n f → state_truth u f ≡ state_truth v f
 same_truth u v n h form.True p l = refl
 same_truth u v n h form.False p l = refl
 same_truth u v n h (form.Atomic (form.TruthAt k true)) p l = cc
@@ -245,7 +268,8 @@ abbrev pub ArePropositional : ℕ → Question → Type 0
 ArePropositional n [] = Unit {0}
 ArePropositional n (e ∷ q) = IsPropositional e.0 × ReadsBelow n e.0 × ArePropositional n q
 
-signed_true : (b s : Bool) (P : Type 0) → (P → b ≡ true) → (b ≡ true → P) → ((s ≡ true → P) × (s ≡ false → P → ⊥)) → cond s b (not b) ≡ true
+signed_true : (b s : Bool) (P : Type 0) → (P → b ≡ true) → (b ≡ true → P) → ((s ≡ true → P) × (s ≡ false → P → ⊥))
+    → cond s b (not b) ≡ true
 signed_true b true P h k m = h (m.0 refl)
 signed_true true false P h k m = absurd (m.1 refl (k refl))
 signed_true false false P h k m = refl
@@ -255,7 +279,8 @@ meets_parts w f true m = (λ e. m, λ e. cc)
 meets_parts w f false m = (λ e. cc, λ e. m)
 
 -- where a trace meets a question, its first valuation breaks it
-pub meets_breaks : StateTruthDecides → (w : Trace) (bs : List Bool) (n : ℕ) → ((k : ℕ) → k < n → as_truth (w 0 k) ≡ as_truth (boolean bs k))
+pub meets_breaks : StateTruthDecides → (w : Trace) (bs : List Bool) (n : ℕ)
+    → ((k : ℕ) → k < n → as_truth (w 0 k) ≡ as_truth (boolean bs k))
     → (q : Question) → ArePropositional n q → MeetsAll w q → breaks bs q ≡ true
 meets_breaks decides w bs n same [] p m = refl
 meets_breaks decides w bs n same (e ∷ q) p m =
@@ -272,13 +297,15 @@ and_right : (a b : Bool) → (a && b) ≡ true → b ≡ true
 and_right true b h = h
 and_right false b h = absurd (false≢true h)
 
-meets_from : (w : Trace) (f : Ltl) (b s : Bool) → (b ≡ true → Holds w f 0) → (Holds w f 0 → b ≡ true) → cond s b (not b) ≡ true → Meets w f s
+meets_from : (w : Trace) (f : Ltl) (b s : Bool) → (b ≡ true → Holds w f 0) → (Holds w f 0 → b ≡ true)
+    → cond s b (not b) ≡ true → Meets w f s
 meets_from w f b true h k e = h e
 meets_from w f true false h k e = absurd (false≢true e)
 meets_from w f false false h k e = λ x. false≢true (k x)
 
 -- a valuation that breaks a question is the first of a trace that meets it
-pub breaks_meets : StateTruthDecides → (w : Trace) (bs : List Bool) (n : ℕ) → ((k : ℕ) → k < n → as_truth (w 0 k) ≡ as_truth (boolean bs k))
+pub breaks_meets : StateTruthDecides → (w : Trace) (bs : List Bool) (n : ℕ)
+    → ((k : ℕ) → k < n → as_truth (w 0 k) ≡ as_truth (boolean bs k))
     → (q : Question) → ArePropositional n q → breaks bs q ≡ true → MeetsAll w q
 breaks_meets decides w bs n same [] p b = tt
 breaks_meets decides w bs n same (e ∷ q) p b =
@@ -290,11 +317,13 @@ breaks_meets decides w bs n same (e ∷ q) p b =
 
 -- the questions of a level are propositional over the free ports
 
-propositional-append : (n : ℕ) (q r : Question) → ArePropositional n q → ArePropositional n r → ArePropositional n (q ++ r)
+propositional-append : (n : ℕ) (q r : Question) → ArePropositional n q → ArePropositional n r
+    → ArePropositional n (q ++ r)
 propositional-append n [] r h k = k
 propositional-append n (e ∷ q) r h k = (h.0, h.1, propositional-append n q r h.2 k)
 
-propositional_map : (n : ℕ) (f : Part → Ltl) → ((part : Part) → IsPropositional (f part) × ReadsBelow n (f part)) → (parts : List Part)
+propositional_map : (n : ℕ) (f : Part → Ltl) → ((part : Part) → IsPropositional (f part) × ReadsBelow n (f part))
+    → (parts : List Part)
     → ArePropositional n (map (λ (part : Part). (f part, true)) parts)
 propositional_map n f h [] = tt
 propositional_map n f h (p ∷ parts) = ((h p).0, (h p).1, propositional_map n f h parts)
@@ -323,35 +352,42 @@ level_propositional spec ok item =
     let n = length (free_targets spec c) in
     let m = length (ports_of spec c) in
     let r = propositional_reading spec c (ok.wires c) None in (
-      substituted_propositional m n (readings spec c None) r (assumption spec c item.contract) (assumption_propositional spec ok c item.contract) (assumption_reads spec ok.well c item.contract),
-      substituted_propositional m n (readings spec c None) r (guarantee spec c item.contract) (guarantee_propositional spec ok c item.contract) (guarantee_reads spec ok.well c item.contract),
+      substituted_propositional m n (readings spec c None) r (assumption spec c item.contract) (assumption_propositional spec ok c item.contract)
+          (assumption_reads spec ok.well c item.contract),
+      substituted_propositional m n (readings spec c None) r (guarantee spec c item.contract) (guarantee_propositional spec ok c item.contract)
+          (guarantee_reads spec ok.well c item.contract),
     )
 
-entails_propositional : (spec : Spec) → IsPropositionalSpec spec → (item : Item) → ArePropositional (length (free_targets spec item.component)) (entails spec item)
+entails_propositional : (spec : Spec) → IsPropositionalSpec spec → (item : Item)
+    → ArePropositional (length (free_targets spec item.component)) (entails spec item)
 entails_propositional spec ok item =
     let l = level_propositional spec ok item in
     propositional-append _ _ _ (propositional_map _ (listed_normal_form spec item) (λ part. (listed_propositional spec ok item part).0) item.parts)
     (l.0.0, l.0.1, (l.1.0, l.1.1, tt))
 
-assumes_propositional : (spec : Spec) → IsPropositionalSpec spec → (item : Item) (part : Part) → ArePropositional (length (free_targets spec item.component)) (assumes spec item part)
+assumes_propositional : (spec : Spec) → IsPropositionalSpec spec → (item : Item) (part : Part)
+    → ArePropositional (length (free_targets spec item.component)) (assumes spec item part)
 assumes_propositional spec ok item part =
     let l = level_propositional spec ok item in
     let p = (listed_propositional spec ok item part).1 in (
       l.0.0,
       l.0.1,
       propositional-append _ _ _
-          (propositional_map _ (listed_normal_form spec item) (λ other. (listed_propositional spec ok item other).0) (filter (is_of_another_sub part) item.parts))
+          (propositional_map _ (listed_normal_form spec item) (λ other. (listed_propositional spec ok item other).0)
+          (filter (is_of_another_sub part) item.parts))
           (p.0, p.1, tt),
     )
 
 -- the word of a lasso of truth values gives each boolean port a value of its type
 
-values_boolean : (bs : List Bool) (k : ℕ) → (b : Bool) × (get_or (boolean_values bs) k (value.Bool false) ≡ value.Bool b)
+values_boolean : (bs : List Bool) (k : ℕ)
+    → (b : Bool) × (get_or (boolean_values bs) k (value.Bool false) ≡ value.Bool b)
 values_boolean [] k = (false, refl)
 values_boolean (b ∷ bs) zero = (b, refl)
 values_boolean (b ∷ bs) (suc k) = values_boolean bs k
 
-state_boolean : (bs : List Bool) (m k : ℕ) → (b : Bool) × (get_or (get_or (boolean_values bs ∷ []) m []) k (value.Bool false) ≡ value.Bool b)
+state_boolean : (bs : List Bool) (m k : ℕ)
+    → (b : Bool) × (get_or (get_or (boolean_values bs ∷ []) m []) k (value.Bool false) ≡ value.Bool b)
 state_boolean bs zero k = values_boolean bs k
 state_boolean bs (suc m) k = (false, refl)
 
@@ -368,17 +404,20 @@ kind_at : (spec : Spec) → IsPropositionalSpec spec → (c : ComponentId) (s : 
 kind_at spec ok c None k port e = ok.ports c k port e
 kind_at spec ok c (Some s) k port e = kind_in spec ok (sub_component spec c s) k port e
 
-port_fits : (o : Option OwnPort) (v : Value) (b : Bool) → ((port : OwnPort) → o ≡ Some port → port.kind ≡ kind.Bool) → v ≡ value.Bool b
+port_fits : (o : Option OwnPort) (v : Value) (b : Bool) → ((port : OwnPort) → o ≡ Some port → port.kind ≡ kind.Bool)
+    → v ≡ value.Bool b
     → IfSome o (λ (port : OwnPort). IsOfType port.kind v)
 port_fits None v b h e = tt
 port_fits (Some port) v b h e = boolean_fits port.kind v b (h port refl) e
 
-target_fits : (spec : Spec) → IsPropositionalSpec spec → (c : ComponentId) (o : Option Target) (v : Value) (b : Bool) → v ≡ value.Bool b
+target_fits : (spec : Spec) → IsPropositionalSpec spec → (c : ComponentId) (o : Option Target) (v : Value) (b : Bool)
+    → v ≡ value.Bool b
     → IfSome o (λ t. IfSome (port_at spec c t) (λ (port : OwnPort). IsOfType port.kind v))
 target_fits spec ok c None v b e = tt
 target_fits spec ok c (Some t) v b e = port_fits (port_at spec c t) v b (λ port f. kind_at spec ok c t.sub t.port.0 port f) e
 
-typed_lasso : (spec : Spec) → IsPropositionalSpec spec → (c : ComponentId) (bs : List Bool) → IsFreeTrace spec c (word (boolean_values bs ∷ []) 0)
+typed_lasso : (spec : Spec) → IsPropositionalSpec spec → (c : ComponentId) (bs : List Bool)
+    → IsFreeTrace spec c (word (boolean_values bs ∷ []) 0)
 typed_lasso spec ok c bs i k =
     let v = state_boolean bs (lasso_place 1 0 i) k in
     target_fits spec ok c (slice_get (free_targets spec c) k) (word (boolean_values bs ∷ []) 0 i k) v.0 v.1
@@ -423,7 +462,8 @@ pub open_verdict : (o q : Option (List Bool)) (v : Verdict) → o ≡ q → IsVe
 open_verdict o q v e h = rw (← e) h
 
 -- the verdict of the entails question
-pub entails_verdict : (spec : Spec) → IsPropositionalSpec spec → (item : Item) (n : ℕ) (table : List TableLine) (v : Verdict)
+pub entails_verdict : (spec : Spec) → IsPropositionalSpec spec
+    → (item : Item) (n : ℕ) (table : List TableLine) (v : Verdict)
     → n ≡ length (free_targets spec item.component)
     → table ≡ map (table_line spec item (driver_rows spec item.component)) (valuations n)
     → IsVerdict (option_map (λ (row : TableLine). row.free) (find breaks_entails table)) v
@@ -435,14 +475,16 @@ entails_verdict spec ok item n table v e f h =
     ∙ g ∙ ap (λ (m : ℕ). first_breaking m (entails spec item)) e) h
 
 -- the verdict of an assumes question
-pub assumes_verdict : (spec : Spec) → IsPropositionalSpec spec → (item : Item) (n : ℕ) (table : List TableLine) (v : Verdict)
+pub assumes_verdict : (spec : Spec) → IsPropositionalSpec spec
+    → (item : Item) (n : ℕ) (table : List TableLine) (v : Verdict)
     → n ≡ length (free_targets spec item.component)
     → table ≡ map (table_line spec item (driver_rows spec item.component)) (valuations n)
     → (place : ℕ) (part : Part) → slice_get item.parts place ≡ Some part
     → IsVerdict (option_map (λ (row : TableLine). row.free) (find (breaks_assumes item.parts place part) table)) v
     → IsVerdict (first_breaking (length (free_targets spec item.component)) (assumes spec item part)) v
 assumes_verdict spec ok item n table v e f place part at h =
-    let g = find_line (breaks_assumes item.parts place part) (λ (bs : List Bool). breaks bs (assumes spec item part)) (table_line spec item (driver_rows spec item.component))
+    let g = find_line (breaks_assumes item.parts place part) (λ (bs : List Bool). breaks bs (assumes spec item part))
+    (table_line spec item (driver_rows spec item.component))
     (λ bs. assumes_line spec ok item bs place part at) (λ bs. refl) (valuations n) in
     open_verdict _ _ v (ap (λ (t : List TableLine). option_map (λ (row : TableLine). row.free) (find (breaks_assumes item.parts place part) t)) f
     ∙ g ∙ ap (λ (m : ℕ). first_breaking m (assumes spec item part)) e) h
@@ -470,10 +512,12 @@ verdicts_push spec item parts [] part v h k = absurd h
 verdicts_push spec item parts (w ∷ vs) part v h k = (h.0, assumes_verdicts_push spec item parts vs part v h.1 k)
 
 pub verdicts_start : (spec : Spec) (item : Item) (vs : List Verdict) (v : Verdict) → vs ≡ v ∷ []
-    → IsVerdict (first_breaking (length (free_targets spec item.component)) (entails spec item)) v → AreVerdictsOf spec item [] vs
+    → IsVerdict (first_breaking (length (free_targets spec item.component)) (entails spec item)) v
+    → AreVerdictsOf spec item [] vs
 verdicts_start spec item vs v e h = rw e (h, tt)
 
-pub verdicts_more : (spec : Spec) (item : Item) (vs us : List Verdict) (v : Verdict) (place : ℕ) (part : Part) → us ≡ vs ++ v ∷ []
+pub verdicts_more : (spec : Spec) (item : Item) (vs us : List Verdict) (v : Verdict) (place : ℕ) (part : Part)
+    → us ≡ vs ++ v ∷ []
     → slice_get item.parts place ≡ Some part → AreVerdictsOf spec item (take place item.parts) vs
     → IsVerdict (first_breaking (length (free_targets spec item.component)) (assumes spec item part)) v
     → AreVerdictsOf spec item (take (place + 1) item.parts) us

@@ -1,4 +1,5 @@
-use Rattle.std.proofs.Common.{◌≡◌, ℕ, zero, suc, ◌⊎◌, Bool, true, false, cond, List, [], ◌∷◌, ◌++◌, map, length, Option, Some, None, option_map, refl, sym, ap, ◌∙◌, inl, inr, arith}
+use Rattle.std.proofs.Common.{◌≡◌, ℕ, zero, suc, ◌⊎◌, Bool, true, false, cond, List, [], ◌∷◌, ◌++◌, map, length, Option, Some, None, option_map, refl, sym}
+use Rattle.std.proofs.Common.{ap, ◌∙◌, inl, inr, arith}
 use Rattle.std.specs.List.{find}
 use Rattle.obligations.specs.Valuations.{valuations, breaks}
 use Rattle.obligations.specs.Verdicts.{StandsBefore, IsLeast, FirstIsLeast}
@@ -20,7 +21,8 @@ found_in_either p (x ∷ xs) ys b e = step (p x) (found_in_either p xs ys b) e w
   step true k f = inl f
   step false k f = k f
 
-find-map : (p : Test) (f : List Bool → List Bool) (xs : List (List Bool)) → find p (map f xs) ≡ option_map f (find (λ (x : List Bool). p (f x)) xs)
+find-map : (p : Test) (f : List Bool → List Bool) (xs : List (List Bool))
+    → find p (map f xs) ≡ option_map f (find (λ (x : List Bool). p (f x)) xs)
 find-map p f [] = refl
 find-map p f (x ∷ xs) = step (p (f x)) (find-map p f xs) where
   step : (t : Bool) → find p (map f xs) ≡ option_map f (find (λ (y : List Bool). p (f y)) xs)
@@ -28,7 +30,8 @@ find-map p f (x ∷ xs) = step (p (f x)) (find-map p f xs) where
   step true e = refl
   step false e = e
 
-unmapped : (f : List Bool → List Bool) (o : Option (List Bool)) (b : List Bool) → option_map f o ≡ Some b → (c : List Bool) × (o ≡ Some c) × (f c ≡ b)
+unmapped : (f : List Bool → List Bool) (o : Option (List Bool)) (b : List Bool) → option_map f o ≡ Some b
+    → (c : List Bool) × (o ≡ Some c) × (f c ≡ b)
 unmapped f None b e = cc
 unmapped f (Some c) b e = (c, refl, cc)
 
@@ -36,12 +39,14 @@ unmapped_none : (f : List Bool → List Bool) (o : Option (List Bool)) → optio
 unmapped_none f None e = refl
 unmapped_none f (Some c) e = cc
 
-before_false : (p : Test) (n : ℕ) (c : List Bool) → IsLeast n (λ (x : List Bool). p (false ∷ x)) c → (cs : List Bool) → length cs ≡ suc n → StandsBefore cs (false ∷ c) → p cs ≡ false
+before_false : (p : Test) (n : ℕ) (c : List Bool) → IsLeast n (λ (x : List Bool). p (false ∷ x)) c → (cs : List Bool)
+    → length cs ≡ suc n → StandsBefore cs (false ∷ c) → p cs ≡ false
 before_false p n c h [] e s = absurd s
 before_false p n c h (false ∷ cs) e s = h.least cs (omega arith) s
 before_false p n c h (true ∷ cs) e s = absurd s
 
-before_true : (p : Test) (n : ℕ) (c : List Bool) → IsLeast n (λ (x : List Bool). p (true ∷ x)) c → ((x : List Bool) → length x ≡ n → p (false ∷ x) ≡ false)
+before_true : (p : Test) (n : ℕ) (c : List Bool) → IsLeast n (λ (x : List Bool). p (true ∷ x)) c
+    → ((x : List Bool) → length x ≡ n → p (false ∷ x) ≡ false)
     → (cs : List Bool) → length cs ≡ suc n → StandsBefore cs (true ∷ c) → p cs ≡ false
 before_true p n c h none [] e s = absurd s
 before_true p n c h none (false ∷ cs) e s = none cs (omega arith)
@@ -85,7 +90,8 @@ first_is_least (suc n) p bs e =
           record {
             whole = ap length (sym u.2) ∙ ap suc h.whole;
             passes = ap p (sym u.2) ∙ h.passes;
-            least = λ cs l s. before_true p n u.0 h (λ x k. none_passes (λ (y : List Bool). p (false ∷ y)) (valuations n) x z (among_valuations x n k)) cs l (rw u.2 s);
+            least = λ cs l s. before_true p n u.0 h
+                (λ x k. none_passes (λ (y : List Bool). p (false ∷ y)) (valuations n) x z (among_valuations x n k)) cs l (rw u.2 s);
           }
 
 pub first_breaking_is_least : FirstIsLeast

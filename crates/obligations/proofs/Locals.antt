@@ -1,4 +1,5 @@
-use Rattle.std.proofs.Common.{◌≡◌, ℕ, ◌+◌, ◌<◌, Bool, true, false, ◌&&◌, [], length, Option, Some, None, option_map, slice_get, IfSome, ◌∷◌, refl, sym, ap, ◌∙◌, arith}
+use Rattle.std.proofs.Common.{◌≡◌, ℕ, ◌+◌, ◌<◌, Bool, true, false, ◌&&◌, [], length, Option, Some, None, option_map, slice_get, IfSome, ◌∷◌, refl, sym, ap}
+use Rattle.std.proofs.Common.{◌∙◌, arith}
 use Rattle.std.proofs.lemmas.Bool.{false≢true, eqb-true, eq-eqb}
 use Rattle.std.specs.List.{range_with_len}
 use Rattle.std.specs.Option.{option_map_or, is_none}
@@ -12,13 +13,15 @@ use Rattle.architecture.specs.declared.port.OwnPort.{OwnPort}
 use Rattle.architecture.specs.declared.wire.Wire.{Wire}
 use Rattle.architecture.specs.declared.wire.Target.{Target}
 use Rattle.port_types.specs.Types.{IsOfType}
-use Rattle.architecture.specs.Architecture.{ports_of, ports_at, subs_of, wires_of, sub_component, port_at, target, targets_at, all_ports, same_sub, same_target, connection, free_targets, free_place}
+use Rattle.architecture.specs.Architecture.{ports_of, ports_at, subs_of, wires_of, sub_component, port_at, target, targets_at, all_ports, same_sub}
+use Rattle.architecture.specs.Architecture.{same_target, connection, free_targets, free_place}
 use Rattle.connections.specs.Substitution.{reading, source_reading, reading_value, readings, port_value}
 use Rattle.connections.specs.Substitution as by
 use Rattle.connections.specs.Laws.{ConnectionsHold}
 use Rattle.obligations.specs.Levels.{IsFreeTrace}
 use Rattle.obligations.specs.Systems.{Path, IsInstance, inner, around, IsSystemTrace}
-use Rattle.obligations.proofs.Among.{Among, among_append_left, among_append_right, among_map, among_range, among_flat_map, among_filter, get_at_position, below_length, found}
+use Rattle.obligations.proofs.Among.{Among, among_append_left, among_append_right, among_map, among_range, among_flat_map, among_filter, get_at_position}
+use Rattle.obligations.proofs.Among.{below_length, found}
 
 -- The free ports of an instance: what a system trace gives them, and that the connections hold there.
 
@@ -58,19 +61,22 @@ same_target_itself t = and_both _ _ (same_sub_itself t.sub) (eq-eqb _ _ refl)
 
 -- each port of the component and of its subcomponents is among all ports
 
-among_targets : (spec : Spec) (c : ComponentId) (s : Option SubId) (k : ℕ) → k < length (ports_at spec c s) → Among (targets_at spec c s) (target s k)
+among_targets : (spec : Spec) (c : ComponentId) (s : Option SubId) (k : ℕ) → k < length (ports_at spec c s)
+    → Among (targets_at spec c s) (target s k)
 among_targets spec c s k h =
     let m = among_map (target s) (range_with_len 0 (length (ports_at spec c s))) (0 + k) (among_range 0 (length (ports_at spec c s)) k h) in
     let e : 0 + k ≡ k = omega arith in
     rw e at m
 
 -- a subcomponent with ports exists
-sub_exists : (spec : Spec) (o : Option Sub) (k : ℕ) → k < length (option_map_or (ports_of spec) (option_map (λ (sub : Sub). sub.component) o) [])
+sub_exists : (spec : Spec) (o : Option Sub) (k : ℕ)
+    → k < length (option_map_or (ports_of spec) (option_map (λ (sub : Sub). sub.component) o) [])
     → (sub : Sub) × (o ≡ Some sub)
 sub_exists spec None k h = absurd (omega arith)
 sub_exists spec (Some sub) k h = (sub, refl)
 
-pub among_all_ports : (spec : Spec) (c : ComponentId) (s : Option SubId) (k : ℕ) → k < length (ports_at spec c s) → Among (all_ports spec c) (target s k)
+pub among_all_ports : (spec : Spec) (c : ComponentId) (s : Option SubId) (k : ℕ) → k < length (ports_at spec c s)
+    → Among (all_ports spec c) (target s k)
 among_all_ports spec c None k h = among_append_left _ _ _ (among_targets spec c None k h)
 among_all_ports spec c (Some s) k h =
     let found = sub_exists spec (slice_get (subs_of spec c) s.0) k h in
@@ -82,7 +88,8 @@ among_all_ports spec c (Some s) k h =
     (rw e at r) (among_targets spec c (Some s) k h))
 
 -- a port without connection stands at its place in the free order
-pub at_free_place : (spec : Spec) (c : ComponentId) (s : Option SubId) (k : ℕ) → k < length (ports_at spec c s) → connection spec c (target s k) ≡ None
+pub at_free_place : (spec : Spec) (c : ComponentId) (s : Option SubId) (k : ℕ) → k < length (ports_at spec c s)
+    → connection spec c (target s k) ≡ None
     → slice_get (free_targets spec c) (free_place spec c (target s k)) ≡ Some (target s k)
 at_free_place spec c s k h none =
     get_at_position (same_target (target s k)) (free_targets spec c) (target s k)
@@ -91,8 +98,10 @@ at_free_place spec c s k h none =
     (among_filter (λ (t : Target). is_none (connection spec c t)) (all_ports spec c) (target s k) (among_all_ports spec c s k h) (rw none refl))
 
 local_value : (spec : Spec) (w : Path → Trace) (p : Path) (c : ComponentId) → IsInstance spec p c → IsSystemTrace spec w
-    → (s : Option SubId) (i k : ℕ) → k < length (ports_at spec c s) → (o : Option Wire) → connection spec c (target s k) ≡ o
-    → w (inner p s) i k ≡ reading_value (around spec w p c i) (option_map_or (λ (e : Wire). source_reading e.source) o (by.Free (free_place spec c (target s k))))
+    → (s : Option SubId) (i k : ℕ) → k < length (ports_at spec c s) → (o : Option Wire)
+    → connection spec c (target s k) ≡ o
+    → w (inner p s) i k ≡ reading_value (around spec w p c i) (option_map_or (λ (e : Wire). source_reading e.source) o
+    (by.Free (free_place spec c (target s k))))
 local_value spec w p c here sys s i k h None e =
     sym (ap (λ (o : Option Target). option_map_or (λ (t : Target). w (inner p t.sub) i t.port.0) o (value.Bool false)) (at_free_place spec c s k h e))
 local_value spec w p c here sys s i k h (Some wire) e =
@@ -101,7 +110,8 @@ local_value spec w p c here sys s i k h (Some wire) e =
     ap (λ (t : Target). w (inner p t.sub) i t.port.0) (sym same) ∙ sys.connected p c here i f.0 wire f.1
 
 -- the connections of an instance's component hold on the trace of its free ports
-pub connections_hold : (spec : Spec) (w : Path → Trace) (p : Path) (c : ComponentId) → IsInstance spec p c → IsSystemTrace spec w
+pub connections_hold : (spec : Spec) (w : Path → Trace) (p : Path) (c : ComponentId) → IsInstance spec p c
+    → IsSystemTrace spec w
     → (s : Option SubId) → ConnectionsHold spec c s (around spec w p c) (w (inner p s))
 connections_hold spec w p c here sys s i k h = local_value spec w p c here sys s i k h (connection spec c (target s k)) refl
 
@@ -110,7 +120,8 @@ if_some None P h = tt
 if_some (Some x) P h = h x refl
 
 typed_at : (spec : Spec) (w : Path → Trace) (p : Path) (c : ComponentId) → IsInstance spec p c → IsSystemTrace spec w
-    → (i : ℕ) (s : Option SubId) (k : ℕ) (port : OwnPort) → slice_get (ports_at spec c s) k ≡ Some port → IsOfType port.kind (w (inner p s) i k)
+    → (i : ℕ) (s : Option SubId) (k : ℕ) (port : OwnPort) → slice_get (ports_at spec c s) k ≡ Some port
+    → IsOfType port.kind (w (inner p s) i k)
 typed_at spec w p c here sys i None k port e = sys.typed p c here i k port e
 typed_at spec w p c here sys i (Some s) k port e = typed_sub (sub_component spec c s) refl e where
   typed_sub : (o : Option ComponentId) → sub_component spec c s ≡ o → slice_get (option_map_or (ports_of spec) o []) k ≡ Some port
@@ -119,7 +130,8 @@ typed_at spec w p c here sys i (Some s) k port e = typed_sub (sub_component spec
   typed_sub (Some b) f g = sys.typed (s ∷ p) b (c, here, f) i k port g
 
 -- the trace of an instance's free ports gives each of them a value of its type
-pub typed_around : (spec : Spec) (w : Path → Trace) (p : Path) (c : ComponentId) → IsInstance spec p c → IsSystemTrace spec w
+pub typed_around : (spec : Spec) (w : Path → Trace) (p : Path) (c : ComponentId) → IsInstance spec p c
+    → IsSystemTrace spec w
     → IsFreeTrace spec c (around spec w p c)
 typed_around spec w p c here sys i k =
     if_some (slice_get (free_targets spec c) k) _ (λ t e. if_some (port_at spec c t) _ (λ port f.

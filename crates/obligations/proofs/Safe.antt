@@ -18,7 +18,8 @@ nothing_breaks None h = refl
 nothing_breaks (Some bs) h = absurd h
 
 valid_where_proved : (spec : Spec) (item : Item) (q : Question) → OnePositionDecides spec item q
-    → IsVerdict (first_breaking (length (free_targets spec item.component)) q) verdict.Proved → IsValid spec item.component q
+    → IsVerdict (first_breaking (length (free_targets spec item.component)) q) verdict.Proved
+    → IsValid spec item.component q
 valid_where_proved spec item q d h = d.valid (nothing_breaks (first_breaking (length (free_targets spec item.component)) q) h)
 
 assumes_valid : (spec : Spec) (item : Item) → ((part : Part) → OnePositionDecides spec item (assumes spec item part))
@@ -34,7 +35,8 @@ assumes_valid spec item d (x ∷ parts) (verdict.Proved ∷ vs) h p (suc n) part
 assumes_valid spec item d (x ∷ parts) (verdict.Undecided ∷ vs) h p n part e = absurd p
 assumes_valid spec item d (x ∷ parts) (verdict.Refuted lasso ∷ vs) h p n part e = absurd p
 
-level_valid : LevelsAreDecided → (spec : Spec) → IsPropositionalSpec spec → (item : Item) (vs : List Verdict) → AreVerdicts spec item vs → AreProved vs → IsValidLevel spec item
+level_valid : LevelsAreDecided → (spec : Spec) → IsPropositionalSpec spec → (item : Item) (vs : List Verdict)
+    → AreVerdicts spec item vs → AreProved vs → IsValidLevel spec item
 level_valid decided spec ok item [] h p = absurd h
 level_valid decided spec ok item (verdict.Proved ∷ vs) h p =
     let d = decided spec item ok in

@@ -1,5 +1,6 @@
 use Rattle.architecture.specs.Propositional.{IsPropositional, IsPropositionalSource}
-use Rattle.std.proofs.Common.{◌≡◌, ℕ, zero, suc, ◌+◌, ◌<◌, Bool, true, false, not, cond, List, [], ◌∷◌, map, length, get_or, Option, Some, None, option_map, slice_get, refl, sym, ap, ◌∙◌, arith, add-one}
+use Rattle.std.proofs.Common.{◌≡◌, ℕ, zero, suc, ◌+◌, ◌<◌, Bool, true, false, not, cond, List, [], ◌∷◌, map, length, get_or, Option, Some, None}
+use Rattle.std.proofs.Common.{option_map, slice_get, refl, sym, ap, ◌∙◌, arith, add-one}
 use Rattle.std.specs.List.{range_with_len, find}
 use Rattle.std.specs.Option.{option_map_or}
 use Rattle.oss_base.specs.declared.ids.ComponentId.{ComponentId}
@@ -32,7 +33,8 @@ as_truth-boolean [] p = refl
 as_truth-boolean (b ∷ bs) zero = refl
 as_truth-boolean (b ∷ bs) (suc p) = as_truth-boolean bs p
 
-pub test_truth_is : (bs : List Bool) (a : Proposition) → IsPropositional (form.Atomic a) → test_truth bs a ≡ proposition_truth (boolean bs) (boolean bs) a
+pub test_truth_is : (bs : List Bool) (a : Proposition) → IsPropositional (form.Atomic a)
+    → test_truth bs a ≡ proposition_truth (boolean bs) (boolean bs) a
 test_truth_is bs (form.TruthAt p true) h = cc
 test_truth_is bs (form.TruthAt p false) h = sym (as_truth-boolean bs p)
 test_truth_is bs (form.Equals a b) h = absurd h
@@ -85,7 +87,8 @@ reading_truth a (by.OfChoice n) = refl
 abbrev pub Gives : ℕ → (ℕ → Reading) → List Bool → List Bool → Type 0
 Gives n readings free values = (k : ℕ) → k < n → get_or values k false ≡ as_truth (reading_value (boolean free) (readings k))
 
-pub substituted_truth : (n : ℕ) (rs : ℕ → Reading) (free values : List Bool) → Gives n rs free values → (f : Ltl) → IsPropositional f → ReadsBelow n f
+pub substituted_truth : (n : ℕ) (rs : ℕ → Reading) (free values : List Bool) → Gives n rs free values → (f : Ltl)
+    → IsPropositional f → ReadsBelow n f
     → boolean_truth values f ≡ state_truth (boolean free) (substituted rs f)
 substituted_truth n rs free values g form.True h l = refl
 substituted_truth n rs free values g form.False h l = refl
@@ -95,10 +98,13 @@ substituted_truth n rs free values g (form.Atomic (form.Equals a b)) h l = absur
 substituted_truth n rs free values g (form.Atomic (form.AtMost a b)) h l = absurd h
 substituted_truth n rs free values g (form.Atomic (form.SameName a b)) h l = absurd h
 substituted_truth n rs free values g (form.Not f) h l = ap not (substituted_truth n rs free values g f h l)
-substituted_truth n rs free values g (form.And a b) h l = cc (substituted_truth n rs free values g a h.0 l.0, substituted_truth n rs free values g b h.1 l.1)
+substituted_truth n rs free values g (form.And a b) h l = cc
+    (substituted_truth n rs free values g a h.0 l.0, substituted_truth n rs free values g b h.1 l.1)
 substituted_truth n rs free values g (form.Or a b) h l = cc (substituted_truth n rs free values g a h.0 l.0, substituted_truth n rs free values g b h.1 l.1)
-substituted_truth n rs free values g (form.Implies a b) h l = cc (substituted_truth n rs free values g a h.0 l.0, substituted_truth n rs free values g b h.1 l.1)
-substituted_truth n rs free values g (form.Iff a b) h l = cc (substituted_truth n rs free values g a h.0 l.0, substituted_truth n rs free values g b h.1 l.1)
+substituted_truth n rs free values g (form.Implies a b) h l = cc
+    (substituted_truth n rs free values g a h.0 l.0, substituted_truth n rs free values g b h.1 l.1)
+substituted_truth n rs free values g (form.Iff a b) h l = cc
+    (substituted_truth n rs free values g a h.0 l.0, substituted_truth n rs free values g b h.1 l.1)
 substituted_truth n rs free values g (form.Then f) h l = absurd h
 substituted_truth n rs free values g (form.Until a b) h l = absurd h
 substituted_truth n rs free values g (form.Releases a b) h l = absurd h
@@ -113,14 +119,16 @@ IsPropositionalReading n (by.OfTruth f) = IsPropositional f × ReadsBelow n f
 IsPropositionalReading n (by.OfNumber m) = ⊥
 IsPropositionalReading n (by.OfChoice m) = ⊥
 
-atom_substituted : (n : ℕ) (r : Reading) → IsPropositionalReading n r → IsPropositional (truth_for r false) × ReadsBelow n (truth_for r false)
+atom_substituted : (n : ℕ) (r : Reading) → IsPropositionalReading n r
+    → IsPropositional (truth_for r false) × ReadsBelow n (truth_for r false)
 atom_substituted n (by.Free k) h = (refl, h)
 atom_substituted n (by.OfTruth f) h = h
 atom_substituted n (by.OfNumber m) h = absurd h
 atom_substituted n (by.OfChoice m) h = absurd h
 
 -- the substituted form of a propositional formula is one over the free ports
-pub substituted_propositional : (m n : ℕ) (rs : ℕ → Reading) → ((k : ℕ) → k < m → IsPropositionalReading n (rs k)) → (f : Ltl) → IsPropositional f → ReadsBelow m f
+pub substituted_propositional : (m n : ℕ) (rs : ℕ → Reading) → ((k : ℕ) → k < m → IsPropositionalReading n (rs k))
+    → (f : Ltl) → IsPropositional f → ReadsBelow m f
     → IsPropositional (substituted rs f) × ReadsBelow n (substituted rs f)
 substituted_propositional m n rs r form.True h l = (tt, tt)
 substituted_propositional m n rs r form.False h l = (tt, tt)
@@ -161,16 +169,19 @@ place_step false x None (Some k) wires h = absurd h
 place_step false x (Some w) None wires h = absurd h
 place_step false x (Some w) (Some k) wires h = rw add-one h
 
-place_agrees : (t : Target) (wires : List Wire) → PlaceAgrees (find (λ (w : Wire). same_target w.target t) wires) (first_wire wires t) wires
+place_agrees : (t : Target) (wires : List Wire)
+    → PlaceAgrees (find (λ (w : Wire). same_target w.target t) wires) (first_wire wires t) wires
 place_agrees t [] = tt
 place_agrees t (x ∷ wires) = place_step (same_target x.target t) x _ _ wires (place_agrees t wires)
 
-wire_truth_at : (free : List Bool) (wires : List Wire) (k : ℕ) (w : Wire) → slice_get wires k ≡ Some w → get_or (wire_truths free wires) k false ≡ source_truth free w.source
+wire_truth_at : (free : List Bool) (wires : List Wire) (k : ℕ) (w : Wire) → slice_get wires k ≡ Some w
+    → get_or (wire_truths free wires) k false ≡ source_truth free w.source
 wire_truth_at free [] k w e = cc
 wire_truth_at free (x ∷ wires) zero w e = let same : x ≡ w = cc in ap (λ (v : Wire). source_truth free v.source) same
 wire_truth_at free (x ∷ wires) (suc k) w e = wire_truth_at free wires k w e
 
-source_truth_is : (free : List Bool) (n : ℕ) (s : Source) → IsPropositionalSource n s → source_truth free s ≡ as_truth (reading_value (boolean free) (source_reading s))
+source_truth_is : (free : List Bool) (n : ℕ) (s : Source) → IsPropositionalSource n s
+    → source_truth free s ≡ as_truth (reading_value (boolean free) (source_reading s))
 source_truth_is free n (source.Truth f) h = truth_is free (meaning f) h.0
 source_truth_is free n (source.Number t) h = absurd h
 source_truth_is free n (source.Choice p) h = absurd h
@@ -179,7 +190,8 @@ source_truth_is free n (source.Choice p) h = absurd h
 abbrev pub WiresArePropositional : Spec → ComponentId → Type 0
 WiresArePropositional spec c = (n : ℕ) (w : Wire) → slice_get (wires_of spec c) n ≡ Some w → IsPropositionalSource (length (free_targets spec c)) w.source
 
-driver_step : (spec : Spec) (c : ComponentId) (free : List Bool) → WiresArePropositional spec c → (place : ℕ) (o : Option Wire) (q : Option ℕ)
+driver_step : (spec : Spec) (c : ComponentId) (free : List Bool) → WiresArePropositional spec c
+    → (place : ℕ) (o : Option Wire) (q : Option ℕ)
     → PlaceAgrees o q (wires_of spec c)
     → driver_truth free (wire_truths free (wires_of spec c)) (option_map_or driver.Wired q (driver.Free place))
     ≡ as_truth (reading_value (boolean free) (option_map_or (λ (w : Wire). source_reading w.source) o (by.Free place)))
@@ -192,9 +204,11 @@ driver_step spec c free ok place (Some w) (Some k) h =
 -- the value of a port, by what drives it, is that of what it stands for
 pub driver_truth_is : (spec : Spec) (c : ComponentId) (free : List Bool) → WiresArePropositional spec c → (t : Target)
     → driver_truth free (wire_truths free (wires_of spec c)) (driver_of spec c t) ≡ as_truth (reading_value (boolean free) (reading spec c t))
-driver_truth_is spec c free ok t = driver_step spec c free ok (free_place spec c t) (connection spec c t) (first_wire (wires_of spec c) t) (place_agrees t (wires_of spec c))
+driver_truth_is spec c free ok t = driver_step spec c free ok (free_place spec c t) (connection spec c t) (first_wire (wires_of spec c) t)
+    (place_agrees t (wires_of spec c))
 
-row_value : (f : Target → Bool) (s : Option SubId) (a n k : ℕ) → k < n → get_or (map f (map (target s) (range_with_len a n))) k false ≡ f (target s (a + k))
+row_value : (f : Target → Bool) (s : Option SubId) (a n k : ℕ) → k < n
+    → get_or (map f (map (target s) (range_with_len a n))) k false ≡ f (target s (a + k))
 row_value f s a zero k l = absurd (omega arith)
 row_value f s a (suc n) zero l = let e : a + 0 ≡ a = omega arith in rw e refl
 row_value f s a (suc n) (suc k) l =
@@ -215,7 +229,8 @@ map_compose : {X Y Z : Type 0} (f : Y → Z) (g : X → Y) (xs : List X) → map
 map_compose f g [] = refl
 map_compose f g (x ∷ xs) = ap (λ r. f (g x) ∷ r) (map_compose f g xs)
 
-maps_compose : {X Y Z : Type 0} (f : Y → Z) (g : X → Y) (rows : List (List X)) → map (map f) (map (map g) rows) ≡ map (map (λ (x : X). f (g x))) rows
+maps_compose : {X Y Z : Type 0} (f : Y → Z) (g : X → Y) (rows : List (List X))
+    → map (map f) (map (map g) rows) ≡ map (map (λ (x : X). f (g x))) rows
 maps_compose f g [] = refl
 maps_compose f g (r ∷ rows) = cc (map_compose f g r, maps_compose f g rows)
 
@@ -233,7 +248,8 @@ own_gives spec c free ok k l =
     let z : 0 + k ≡ k = omega arith in
     ap (λ (row : List Bool). get_or row k false) e ∙ rw z at r ∙ driver_truth_is spec c free ok (target None k)
 
-sub_exists : (spec : Spec) (o : Option Sub) (k : ℕ) → k < length (option_map_or (ports_of spec) (option_map (λ (sub : Sub). sub.component) o) [])
+sub_exists : (spec : Spec) (o : Option Sub) (k : ℕ)
+    → k < length (option_map_or (ports_of spec) (option_map (λ (sub : Sub). sub.component) o) [])
     → (sub : Sub) × (o ≡ Some sub)
 sub_exists spec None k h = absurd (omega arith)
 sub_exists spec (Some sub) k h = (sub, refl)
@@ -253,7 +269,8 @@ sub_gives spec c free ok s k l =
     ∙ rw add-one (ap (λ (row : List Bool). get_or row k false) (rw y at f))
     ∙ rw z at r ∙ driver_truth_is spec c free ok (target (Some s) k)
 
-reading_step : (n : ℕ) (o : Option Wire) (place : ℕ) → (o ≡ None → place < n) → ((w : Wire) → o ≡ Some w → IsPropositionalSource n w.source)
+reading_step : (n : ℕ) (o : Option Wire) (place : ℕ) → (o ≡ None → place < n)
+    → ((w : Wire) → o ≡ Some w → IsPropositionalSource n w.source)
     → IsPropositionalReading n (option_map_or (λ (w : Wire). source_reading w.source) o (by.Free place))
 reading_step n None place h k = h refl
 reading_step n (Some w) place h k = of_source w.source (k w refl) where
@@ -262,7 +279,8 @@ reading_step n (Some w) place h k = of_source w.source (k w refl) where
   of_source (source.Number t) h = absurd h
   of_source (source.Choice p) h = absurd h
 
-found_at : (t : Target) (wires : List Wire) (w : Wire) → find (λ (x : Wire). same_target x.target t) wires ≡ Some w → (k : ℕ) × (slice_get wires k ≡ Some w)
+found_at : (t : Target) (wires : List Wire) (w : Wire) → find (λ (x : Wire). same_target x.target t) wires ≡ Some w
+    → (k : ℕ) × (slice_get wires k ≡ Some w)
 found_at t wires w e = step (find (λ (x : Wire). same_target x.target t) wires) (first_wire wires t) (place_agrees t wires) e where
   step : (o : Option Wire) (q : Option ℕ) → PlaceAgrees o q wires → o ≡ Some w → (k : ℕ) × (slice_get wires k ≡ Some w)
   step None q h f = cc
@@ -270,7 +288,8 @@ found_at t wires w e = step (find (λ (x : Wire). same_target x.target t) wires)
   step (Some v) (Some k) h f = (k, h ∙ f)
 
 -- what a port stands for is propositional over the free ports
-pub propositional_reading : (spec : Spec) (c : ComponentId) → WiresArePropositional spec c → (s : Option SubId) (k : ℕ) → k < length (ports_at spec c s)
+pub propositional_reading : (spec : Spec) (c : ComponentId) → WiresArePropositional spec c
+    → (s : Option SubId) (k : ℕ) → k < length (ports_at spec c s)
     → IsPropositionalReading (length (free_targets spec c)) (readings spec c s k)
 propositional_reading spec c ok s k l =
     reading_step (length (free_targets spec c)) (connection spec c (target s k)) (free_place spec c (target s k))

@@ -1,5 +1,5 @@
--- Composition: what valid levels say of every trace of the whole system (Cimatti and Tonetta, Contracts-refinement proof system for
--- component-based embedded systems, 2015).
+-- Composition: what valid levels say of every trace of the whole system (Cimatti and Tonetta, Contracts-refinement
+-- proof system for component-based embedded systems, 2015).
 use Rattle.std.specs.Prelude.{◌≡◌, ℕ, Some, slice_get}
 use Rattle.oss_base.specs.declared.ids.ComponentId.{ComponentId}
 use Rattle.oss_base.specs.declared.ids.ContractId.{ContractId}

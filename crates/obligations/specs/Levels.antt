@@ -2,7 +2,8 @@
 -- component-based embedded systems, 2015: the proof obligations of a contract refinement). A level is
 -- one contract that is refined by contracts of subcomponents; its formulas speak of the free ports of
 -- the refined component.
-use Rattle.std.specs.Prelude.{ℕ, Bool, true, false, not, List, [], ◌∷◌, ◌++◌, map, filter, Some, None, IfSome, nat_eq, slice_get}
+use Rattle.std.specs.Prelude.{ℕ, Bool, true, false, not, List, [], ◌∷◌, ◌++◌, map, filter, Some, None, IfSome}
+use Rattle.std.specs.Prelude.{nat_eq, slice_get}
 use Rattle.std.specs.Option.{option_map_or}
 use Rattle.oss_base.specs.declared.ids.ComponentId.{ComponentId}
 use Rattle.oss_base.specs.declared.ids.ContractId.{ContractId}

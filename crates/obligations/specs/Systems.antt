@@ -79,8 +79,8 @@ pub record IsSystemSafe (spec : Spec) (w : Path → Trace) (k : ContractId) : Ty
   pub assumed : (p : Path) (c : ComponentId) (d : ContractId) → IsReached spec k p c d
       → Holds (w p) (assumption spec c d) 0
 
--- Each system trace whose unrefined reached contracts hold, and whose environment meets the assumption of this contract of
--- the system, meets its guarantee and every reached assumption.
+-- Each system trace whose unrefined reached contracts hold, and whose environment meets the assumption of this
+-- contract of the system, meets its guarantee and every reached assumption.
 abbrev pub IsSafeFor : Spec → ContractId → Type 0
 IsSafeFor spec k = (w : Path → Trace) → IsSystemTrace spec w → LeavesMeet spec w k
     → Holds (w []) (assumption spec spec.system k) 0 → IsSystemSafe spec w k

@@ -1,12 +1,13 @@
-//! The verdicts of a level over truth values: the least line of its table that breaks a question. It goes away when questions are
-//! decided by searches.
+//! The verdicts of a level over truth values: the least line of its table that breaks a question. It goes away when
+//! questions are decided by searches.
 
 ghost use Rattle.architecture.specs.Propositional.{IsPropositionalSpec};
 ghost use Rattle.std.specs.Prelude.{◌≡◌, ◌∷◌, [], ◌<◌, IfOk, Some, length, find, slice_get};
 ghost use Rattle.std.specs.Option.{option_copied, option_map};
 ghost use Rattle.std.specs.List.{list_all};
 ghost use Rattle.obligations.specs.Levels.{Part, is_of_another_sub as of_another_sub};
-ghost use Rattle.obligations.specs.Tables.{meets as meets_of, others_meet as others_met, assume_at as assumed_at, breaks_entails as entails_broken, breaks_assumes as assumes_broken};
+ghost use Rattle.obligations.specs.Tables.{meets as meets_of, others_meet as others_met, assume_at as assumed_at};
+ghost use Rattle.obligations.specs.Tables.{breaks_entails as entails_broken, breaks_assumes as assumes_broken};
 ghost use Rattle.obligations.specs.Valuations.{boolean_values};
 ghost use Rattle.obligations.specs.Verdicts.{IsVerdict, AreVerdicts};
 ghost use Rattle.obligations.specs.declared.table.TableLine.{TableLine as TheLine};
@@ -143,7 +144,8 @@ fn assumes_verdict(
 ) -> Result<Verdict, NoMemory>
     requires { place < length parts.now }
     ensures { IfOk result (λ v. (part : Part) → slice_get parts.now place ≡ Some part
-        → IsVerdict (option_map (λ (row : TheLine). row.free) (find (assumes_broken parts.now place part) table.now)) v) }
+        → IsVerdict (option_map (λ (row : TheLine). row.free)
+        (find (assumes_broken parts.now place part) table.now)) v) }
 {
     let part = parts[place];
     verdict(alloc, first_against_assumes(table, parts, place, part))

@@ -1,7 +1,9 @@
 //! The names of obligations.
 
 ghost use Rattle.std.specs.Prelude.{◌≡◌, ◌++◌, IfOk, OnOk, string_bytes};
-ghost use Rattle.obligations.specs.Names.{component_name as name_of_component, contract_name as name_of_contract, sub_name as name_of_sub, part_name as name_of_part, level_name as name_of_level};
+ghost use Rattle.obligations.specs.Names.{component_name as name_of_component, contract_name as name_of_contract};
+ghost use Rattle.obligations.specs.Names.{sub_name as name_of_sub, part_name as name_of_part};
+ghost use Rattle.obligations.specs.Names.{level_name as name_of_level};
 
 use architecture::{Item, Spec};
 use oss_base::{ComponentId, ContractId, ItemId, SubId};

@@ -3,7 +3,10 @@
 ghost use Rattle.std.specs.Prelude.{◌≡◌, ◌++◌, [], IfOk, OnOk, map, slice_index_or, false, List, Bool};
 ghost use Rattle.typed_ltl.specs.Formulas.{meaning, proposition_of};
 ghost use Rattle.obligations.specs.Valuations.{boolean_truth, test_truth, valuations};
-ghost use Rattle.obligations.specs.Tables.{source_truth as source_value, wire_truths as wire_values, port_truths as port_values, driver_truth as driver_value, contract_truths as contract_values, part_truths as part_values, table_line};
+ghost use Rattle.obligations.specs.Tables.{source_truth as source_value, wire_truths as wire_values};
+ghost use Rattle.obligations.specs.Tables.{port_truths as port_values, driver_truth as driver_value};
+ghost use Rattle.obligations.specs.Tables.{contract_truths as contract_values, part_truths as part_values};
+ghost use Rattle.obligations.specs.Tables.{table_line};
 
 use architecture::{Item, Source, Spec, Wire};
 use connections::Driver;

@@ -36,7 +36,8 @@ none_more : (a b : Bool) → a ≡ false → b ≡ false → (a || b) ≡ false
 none_more false b first rest = rest
 none_more true b first rest = absurd (true≢false first)
 
-assumes_decided : (spec : Spec) (item : Item) (number : ItemId) (place : ℕ) (parts : List Part) (vs : List Verdict) → AreAssumesVerdicts spec item parts vs
+assumes_decided : (spec : Spec) (item : Item) (number : ItemId) (place : ℕ) (parts : List Part) (vs : List Verdict)
+    → AreAssumesVerdicts spec item parts vs
     → NoneUndecided (answers_from number place vs)
 assumes_decided spec item number place [] [] are = refl
 assumes_decided spec item number place [] (v ∷ vs) are = absurd are
@@ -46,20 +47,24 @@ assumes_decided spec item number place (part ∷ parts) (v ∷ vs) are =
     (verdict_decided (first_breaking (length (free_targets spec item.component)) (assumes spec item part)) v are.0)
     (assumes_decided spec item number (place + 1) parts vs are.1)
 
-level_decided : (spec : Spec) (item : Item) (number : ItemId) (vs : List Verdict) → AreVerdicts spec item vs → NoneUndecided (answers_from number 0 vs)
+level_decided : (spec : Spec) (item : Item) (number : ItemId) (vs : List Verdict) → AreVerdicts spec item vs
+    → NoneUndecided (answers_from number 0 vs)
 level_decided spec item number [] are = absurd are
 level_decided spec item number (v ∷ vs) are =
     none_more (says_undecided v) (list_any is_undecided (answers_from number 1 vs))
     (verdict_decided (first_breaking (length (free_targets spec item.component)) (entails spec item)) v are.0)
     (assumes_decided spec item number 1 item.parts vs are.1)
 
-none_joined : (p : Answer → Bool) (xs ys : List Answer) → list_any p xs ≡ false → list_any p ys ≡ false → list_any p (xs ++ ys) ≡ false
+none_joined : (p : Answer → Bool) (xs ys : List Answer) → list_any p xs ≡ false → list_any p ys ≡ false
+    → list_any p (xs ++ ys) ≡ false
 none_joined p [] ys left right = right
 none_joined p (x ∷ xs) ys left right =
     none_more (p x) (list_any p (xs ++ ys)) (or_left (p x) (list_any p xs) left) (none_joined p xs ys (or_right (p x) (list_any p xs) left) right)
 
-pub all_decided : (spec : Spec) (first : ℕ) (items : List Item) (answers : List Answer) → AreAnswersFrom spec first items answers → NoneUndecided answers
+pub all_decided : (spec : Spec) (first : ℕ) (items : List Item) (answers : List Answer)
+    → AreAnswersFrom spec first items answers → NoneUndecided answers
 all_decided spec first [] answers are = subst NoneUndecided (sym are) refl
 all_decided spec first (item ∷ items) answers are =
     subst NoneUndecided (sym are.3)
-    (none_joined is_undecided (level_answers first are.0) are.1 (level_decided spec item (record { 0 = first }) are.0 are.2) (all_decided spec (first + 1) items are.1 are.4))
+    (none_joined is_undecided (level_answers first are.0) are.1 (level_decided spec item (record { 0 = first }) are.0 are.2)
+    (all_decided spec (first + 1) items are.1 are.4))

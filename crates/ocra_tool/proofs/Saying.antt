@@ -12,7 +12,8 @@ front_from_whole : (a b : Option (List ℕ)) (line : List ℕ) → Appends a b l
 front_from_whole a b line h = (length line, subst (Appends a b) (sym (take_all (length line) line (omega arith))) h)
 
 -- a front of the first part is one of both
-front_of_first : (a b : Option (List ℕ)) (first second : List ℕ) → AppendsFront a b first → AppendsFront a b (first ++ second)
+front_of_first : (a b : Option (List ℕ)) (first second : List ℕ) → AppendsFront a b first
+    → AppendsFront a b (first ++ second)
 front_of_first a b first second h =
     let n = min h.0 (length first) in
     (n, subst (Appends a b) (sym (fewer h.0 first second)) h.1)
@@ -21,7 +22,8 @@ front_of_first a b first second h =
     fewer k first second = take-append-le (min k (length first)) first second (omega arith) ∙ take_min k first
 
 -- the first part, and then a front of the second
-front_of_both : (a b c : Option (List ℕ)) (first second : List ℕ) → Appends a b first → AppendsFront b c second → AppendsFront a c (first ++ second)
+front_of_both : (a b c : Option (List ℕ)) (first second : List ℕ) → Appends a b first → AppendsFront b c second
+    → AppendsFront a c (first ++ second)
 front_of_both a b c first second h k =
     (length first + k.0, subst (Appends a c) (sym (take-append-add first second k.0)) (Appends-trans a b c first (take k.0 second) h k.1))
 

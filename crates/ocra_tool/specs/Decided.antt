@@ -1,5 +1,5 @@
--- What `check` answers on a specification: the verdict of each obligation, the report, the status, and what follows for the
--- whole system where all obligations are proved.
+-- What `check` answers on a specification: the verdict of each obligation, the report, the status, and what follows
+-- for the whole system where all obligations are proved.
 use Rattle.std.specs.Prelude.{◌≡◌, ℕ, List}
 use Rattle.architecture.specs.declared.spec.Spec.{Spec}
 use Rattle.architecture.specs.declared.item.Item.{Item}
@@ -11,9 +11,9 @@ use Rattle.report.specs.CheckTexts.{check_text}
 use Rattle.report.specs.AllAnswers.{AreAnswers}
 use Rattle.ocra_tool.specs.Files.{IsSystemOf}
 
--- The bytes are a specification, the text is the report on its obligations, the status is that of the report. What a verdict
--- says holds over infinite traces: a question that no valuation breaks is valid, and the lasso of one that does breaks it.
--- Where everything is proved the system is safe.
+-- The bytes are a specification, the text is the report on its obligations, the status is that of the report. What a
+-- verdict says holds over infinite traces: a question that no valuation breaks is valid, and the lasso of one that
+-- does breaks it. Where everything is proved the system is safe.
 pub record IsChecked (bytes text : List ℕ) (ended : ℕ) : Type 0 where
   pub spec : Spec
   pub system : IsSystemOf bytes spec

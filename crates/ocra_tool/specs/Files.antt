@@ -1,7 +1,7 @@
 -- What the bytes of a file are: a specification of the first form, or a text that is refused for a fault.
 --
--- The faults come in phases: the size of the file, its tokens, its syntax, and what isn't built yet. A phase has a fault
--- only where no earlier one has.
+-- The faults come in phases: the size of the file, its tokens, its syntax, and what isn't built yet. A phase has a
+-- fault only where no earlier one has.
 use Rattle.std.specs.Prelude.{◌≡◌, ℕ, ◌<◌, ◌≤◌, ◌⊎◌, List, length}
 use Rattle.oss_base.specs.Limits.{most_bytes}
 use Rattle.oss_base.specs.declared.fault.Fault.{Fault}

@@ -31,8 +31,8 @@ fault_line_of name fault =
 abbrev pub NoneUndecided : List Answer → Type 0
 NoneUndecided answers = list_any is_undecided answers ≡ false
 
--- What is so where a task came to an outcome: of the bytes of its file, where they are told, and of the shelf's count of
--- faults, which went from `before` to `now`.
+-- What is so where a task came to an outcome: of the bytes of its file, where they are told, and of the shelf's count
+-- of faults, which went from `before` to `now`.
 abbrev pub Means : Option (List ℕ) → ℕ → ℕ → Task → Outcome → Type 0
 Means told before now task (Done report) =
     IsDone report.status × IfSome told (λ bytes. IsChecked bytes report.text report.status)

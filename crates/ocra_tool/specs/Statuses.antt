@@ -1,8 +1,8 @@
 -- The statuses that the program ends with.
 use Rattle.std.specs.Prelude.{◌≡◌, ℕ, ◌⊎◌}
 
--- Done with nothing refuted, done with something refuted, the file is refused, the words mean no command, the file could
--- not be read, the output could not be written, want of memory.
+-- Done with nothing refuted, done with something refuted, the file is refused, the words mean no command, the file
+-- could not be read, the output could not be written, want of memory.
 abbrev pub IsStatus : ℕ → Type 0
 IsStatus status = (status ≡ 0) ⊎ (status ≡ 1) ⊎ (status ≡ 3) ⊎ (status ≡ 4) ⊎ (status ≡ 5) ⊎ (status ≡ 6) ⊎ (status ≡ 7)
 

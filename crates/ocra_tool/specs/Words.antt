@@ -3,7 +3,8 @@
 -- The first word is the name of the command. The words behind it are its operands. A word that is empty or that
 -- begins with `-` is no operand, and no word is an option, so a command line with such a word means nothing.
 -- (The convention on `-` is that of the utilities of POSIX, "Utility Syntax Guidelines".)
-use Rattle.std.specs.Prelude.{ℕ, Bool, false, not, List, [], ◌∷◌, Option, Some, None, map, bytes_eq, codes, string_bytes, ◌==◌, if◌then◌else◌}
+use Rattle.std.specs.Prelude.{ℕ, Bool, false, not, List, [], ◌∷◌, Option, Some, None, map, bytes_eq, codes}
+use Rattle.std.specs.Prelude.{string_bytes, ◌==◌, if◌then◌else◌}
 use Rattle.std.specs.List.{list_all}
 use Rattle.std.specs.Prelude.{String}
 use Rattle.std.specs.declared.alloc.Global.{Global}

@@ -1,4 +1,5 @@
-//! `check FILE`: reads the file and makes its report, or the line of its fault. It reads the shelf and writes to no sink.
+//! `check FILE`: reads the file and makes its report, or the line of its fault. It reads the shelf and writes to no
+//! sink.
 
 ghost use Rattle.std.specs.Prelude.{◌≡◌, ◌≤◌, ◌↔◌, List, ℕ, Option, Some, length, IfOk, IfSome};
 ghost use Rattle.oss_base.specs.Faults.{IfFault};

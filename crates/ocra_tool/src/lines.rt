@@ -22,7 +22,8 @@ pub fn say_usage<E: Sink>(err: &mut E)
 
 /// Says that a file could not be read.
 pub fn say_read_fault<E: Sink>(err: &mut E, file: &str)
-    ensures { Says (E.taken err.old) (E.taken err.new) (E.faults err.old) (E.faults err.new) (read_fault_line file.now) }
+    ensures { Says (E.taken err.old) (E.taken err.new) (E.faults err.old) (E.faults err.new)
+        (read_fault_line file.now) }
 {
     say_two(err, file.as_bytes(), b": read fault\n");
 }

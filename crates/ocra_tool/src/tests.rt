@@ -1,5 +1,5 @@
-//! Runs of the top call over shelves and sinks in memory, where chosen calls fail. What is printed for which file stands in the
-//! worked cases beside the crates.
+//! Runs of the top call over shelves and sinks in memory, where chosen calls fail. What is printed for which file
+//! stands in the worked cases beside the crates.
 
 ghost use Rattle.std.specs.Prelude.{◌<◌};
 
@@ -10,8 +10,24 @@ use std::alloc::Global;
 use std::test::Fail;
 
 /// Two valves in series, whose system is safe.
-const VALVES: &str =
-    "COMPONENT Thr system INTERFACE INPUT PORT cmd: boolean; OUTPUT PORT fire: boolean; CONTRACT safe assume: true; guarantee: fire implies cmd; REFINEMENT SUB a: Valve; SUB b: Valve; CONNECTION a.open := cmd; CONNECTION b.open := cmd; CONNECTION fire := a.flow and b.flow; CONTRACT safe REFINEDBY a.tight, b.tight; COMPONENT Valve INTERFACE INPUT PORT open: boolean; OUTPUT PORT flow: boolean; CONTRACT tight assume: true; guarantee: flow implies open;";
+const VALVES: &str = "COMPONENT Thr system
+INTERFACE
+INPUT PORT cmd: boolean;
+OUTPUT PORT fire: boolean;
+CONTRACT safe assume: true; guarantee: fire implies cmd;
+REFINEMENT
+SUB a: Valve;
+SUB b: Valve;
+CONNECTION a.open := cmd;
+CONNECTION b.open := cmd;
+CONNECTION fire := a.flow and b.flow;
+CONTRACT safe REFINEDBY a.tight, b.tight;
+COMPONENT Valve
+INTERFACE
+INPUT PORT open: boolean;
+OUTPUT PORT flow: boolean;
+CONTRACT tight assume: true; guarantee: flow implies open;
+";
 
 const EMPTY: &str = "COMPONENT S system INTERFACE";
 
@@ -34,8 +50,9 @@ const MEANINGLESS: [&str; 12] = [
     "\"\" x.oss",
 ];
 
-/// A file held under a name, the number of the call on the shelf that fails, and the status. The first call opens the file,
-/// the third is the second read. A name that isn't held, and a read that fails behind all bytes, are no end of the file either.
+/// A file held under a name, the number of the call on the shelf that fails, and the status. The first call opens the
+/// file, the third is the second read. A name that isn't held, and a read that fails behind all bytes, are no end of
+/// the file either.
 const FAILING: [(&str, &str, u64, u8); 5] = [
     ("thr.oss", VALVES, 3, 5),
     ("thr.oss", VALVES, 1, 5),

@@ -1,4 +1,5 @@
-//! The top call: reads from the shelf what the words ask for, writes the answer to one sink and what went wrong to the other.
+//! The top call: reads from the shelf what the words ask for, writes the answer to one sink and what went wrong to the
+//! other.
 
 ghost use Rattle.std.specs.Prelude.{◌≡◌, ◌≢◌, ◌≤◌, ◌↔◌, ◌⊎◌, List, ℕ, None, IfSome};
 ghost use Rattle.std.specs.Io.KnownBytes.{Appends};

@@ -14,7 +14,11 @@ use Rattle.oss_base.proofs.FaultNumbers.{fault_number-injective}
 
 same_phase : (p q : ℕ) → (p < q → ⊥) → (q < p → ⊥) → p ≡ q
 same_phase p q not_less not_more =
-    elim (cases_lt p q) [ inl less ↦ absurd (not_less less) | inr upto ↦ elim (cases_lt q p) [ inl more ↦ absurd (not_more more) | inr past ↦ omega arith ] ]
+    elim (cases_lt p q) [
+      | inl less ↦ absurd (not_less less)
+      | inr upto ↦ elim
+          (cases_lt q p) [ inl more ↦ absurd (not_more more) | inr past ↦ omega arith ]
+    ]
 
 same_offsets : (a b m n : ℕ) → (a < b) ⊎ ((a ≡ b) × (m ≤ n)) → (b < a) ⊎ ((b ≡ a) × (n ≤ m)) → a ≡ b
 same_offsets a b m n h i = elim h [ inl less ↦ elim i [ inl more ↦ absurd (omega arith) | inr tie ↦ sym tie.0 ] | inr tie ↦ tie.0 ]
@@ -30,7 +34,8 @@ not_before : (a b m n : ℕ) → nat_lt a b || (a == b && nat_lt m n) ≡ false 
 not_before a b m n h = elim (cases_lt b a) [ inl less ↦ inl less | inr upto ↦ inr (grind (arith, nat_tests), grind (arith, nat_tests)) ]
 
 -- where no fault is the first, there is none: by the number, then the offset, then the phase
-clear_here : (At : ℕ → FaultKind → ℕ → Type 0) → ((k : FaultKind) (a : ℕ) → IsFirst At k a → ⊥) → (p b : ℕ) (k : FaultKind)
+clear_here : (At : ℕ → FaultKind → ℕ → Type 0) → ((k : FaultKind) (a : ℕ) → IsFirst At k a → ⊥)
+    → (p b : ℕ) (k : FaultKind)
     → ((q : ℕ) (l : FaultKind) (a : ℕ) → q < p → At q l a → ⊥)
     → ((a : ℕ) (l : FaultKind) → a < b → At p l a → ⊥)
     → ((l : FaultKind) → fault_number l < fault_number k → At p l b → ⊥) → At p k b → ⊥
@@ -74,10 +79,14 @@ clear_phases At none (suc n) p b k below =
 pub IsFirst-unique : (At : ℕ → FaultKind → ℕ → Type 0) (k l : FaultKind) (a b : ℕ)
     → IsFirst At k a → IsFirst At l b → (k ≡ l) × (a ≡ b)
 IsFirst-unique At k l a b h i =
-    let phases : h.phase ≡ i.phase = same_phase h.phase i.phase (λ less. i.earlier h.phase k a less h.stands) (λ less. h.earlier i.phase l b less i.stands) in
+    let phases : h.phase ≡ i.phase = same_phase h.phase i.phase (λ less. i.earlier h.phase k a less h.stands)
+    (λ less. h.earlier i.phase l b less i.stands) in
     let after = h.least l b (subst (λ p. At p l b) (sym phases) i.stands) in
-    let ahead = i.least k a (subst (λ p. At p k a) phases h.stands) in
-    (fault_number-injective k l (same_numbers a b (fault_number k) (fault_number l) after ahead), same_offsets a b (fault_number k) (fault_number l) after ahead)
+    let ahead = i.least k a (subst (λ p. At p k a) phases h.stands) in (
+      fault_number-injective k l (same_numbers a b (fault_number k) (fault_number l) after ahead),
+      same_offsets a b (fault_number k)
+          (fault_number l) after ahead,
+    )
 
 -- None exists exactly where every phase is clear.
 pub IsClear-from_none : (At : ℕ → FaultKind → ℕ → Type 0) → ((k : FaultKind) (a : ℕ) → IsFirst At k a → ⊥) → IsClear At

@@ -2,7 +2,9 @@
 use Rattle.std.specs.Prelude.{ℕ, List, Result, Ok, Err, codes}
 use Rattle.oss_base.specs.declared.fault.Fault.{Fault}
 use Rattle.oss_base.specs.declared.fault.FaultKind.{FaultKind}
-use Rattle.oss_base.specs.declared.fault.FaultKind.TheVariants.{F0, F1, F2, F3, F4, F5, F6, F7, F8, F9, F10, F11, F12, F13, F14, F15, F16, F17, F18, F19, F20, F21, F22, F23, F24, F25, F26, F27, F28, F29, F30}
+use Rattle.oss_base.specs.declared.fault.FaultKind.TheVariants.{F0, F1, F2, F3, F4, F5, F6, F7, F8, F9, F10, F11}
+use Rattle.oss_base.specs.declared.fault.FaultKind.TheVariants.{F12, F13, F14, F15, F16, F17, F18, F19, F20, F21}
+use Rattle.oss_base.specs.declared.fault.FaultKind.TheVariants.{F22, F23, F24, F25, F26, F27, F28, F29, F30}
 use Rattle.oss_base.specs.declared.fault.Stop.{Stop}
 use Rattle.oss_base.specs.declared.fault.Stop.TheVariants as stops
 

@@ -1,6 +1,6 @@
--- The first fault of a text over all phases, once for all of them. Its laws speak of every relation between a phase, a kind
--- and an offset, which no clause of a function can; so they are lemmas of this crate (`proofs/FirstFaults.antt`), which other
--- crates cite.
+-- The first fault of a text over all phases, once for all of them. Its laws speak of every relation between a phase, a
+-- kind and an offset, which no clause of a function can; so they are lemmas of this crate (`proofs/FirstFaults.antt`),
+-- which other crates cite.
 use Rattle.std.specs.Prelude.{◌≡◌, ℕ, ◌<◌, ◌≤◌, ◌⊎◌}
 use Rattle.oss_base.specs.Faults.{fault_number}
 use Rattle.oss_base.specs.declared.fault.FaultKind.{FaultKind}

@@ -1,5 +1,6 @@
 -- Sites of faults, a kind and an offset in bytes each, and the first of a list of them.
-use Rattle.std.specs.Prelude.{◌≡◌, ◌==◌, nat_lt, Bool, false, ◌&&◌, ◌||◌, if◌then◌else◌, List, [], ◌∷◌, Option, None, Some, All, Contains}
+use Rattle.std.specs.Prelude.{◌≡◌, ◌==◌, nat_lt, Bool, false, ◌&&◌, ◌||◌, if◌then◌else◌, List, [], ◌∷◌, Option}
+use Rattle.std.specs.Prelude.{None, Some, All, Contains}
 use Rattle.oss_base.specs.Faults.{fault_number}
 use Rattle.oss_base.specs.declared.sites.FaultSite.{FaultSite}
 

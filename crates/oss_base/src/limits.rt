@@ -1,7 +1,8 @@
 //! The limits of the language and of the size of a level, as constants. They touch nothing.
 
 ghost use Rattle.std.specs.Prelude.{◌≡◌};
-ghost use Rattle.oss_base.specs.Limits.{most_bytes, most_height, most_components, most_instances, most_closure_members, most_level_size, most_value_bits, most_guards};
+ghost use Rattle.oss_base.specs.Limits.{most_bytes, most_height, most_components, most_instances};
+ghost use Rattle.oss_base.specs.Limits.{most_closure_members, most_level_size, most_value_bits, most_guards};
 
 pub use port_types::{LARGEST_NUMERAL, MOST_PARTS};
 

@@ -1,7 +1,9 @@
 //! Shelves in memory, one that never fails and one on which chosen calls fail. They touch nothing
 //! outside.
 
-ghost use Rattle.std.specs.Prelude.{◌≡◌, ◌↔◌, ◌⊎◌, ◌+◌, ◌^◌, ◌<◌, List, ℕ, [], length, min, take, drop, Contains, Some, None, is_some, IsTrue, IsOk, IsErr, IfOk, OnOk, OnErr, if◌then◌else◌, is_ok};
+ghost use Rattle.std.specs.Prelude.{◌≡◌, ◌↔◌, ◌⊎◌, ◌+◌, ◌^◌, ◌<◌, List, ℕ, [], length, min, take, drop, Contains};
+ghost use Rattle.std.specs.Prelude.{Some, None, is_some, IsTrue, IsOk, IsErr, IfOk, OnOk, OnErr, if◌then◌else◌};
+ghost use Rattle.std.specs.Prelude.{is_ok};
 ghost use Rattle.std.specs.Io.{ReadsAtMost};
 ghost use Rattle.std.specs.Io.KnownBytes.{IsAtEnd, ReadConsumes};
 ghost use Rattle.oss_io.specs.Outside.{HasCause};
@@ -141,7 +143,8 @@ pub struct MemoryShelf {
 }
 
 impl MemoryShelf {
-    ghost use Rattle.oss_io.specs.Shelves.{shelf_files, shelf_left, shelf_failing, shelf_piece, shelf_calls, shelf_faults, IsSameShelf};
+    ghost use Rattle.oss_io.specs.Shelves.{shelf_files, shelf_left, shelf_failing, shelf_piece, shelf_calls};
+    ghost use Rattle.oss_io.specs.Shelves.{shelf_faults, IsSameShelf};
 
     /// A shelf with these files, of which none is open yet. Calls of `open` and `read` are counted
     /// together from 1: those of a number in `failing` fail, and so does `open` of a name that is
@@ -178,7 +181,8 @@ impl MemoryShelf {
 }
 
 impl Shelf for MemoryShelf {
-    ghost use Rattle.oss_io.specs.Shelves.{shelf_files, shelf_left, shelf_failing, shelf_calls, shelf_faults, shelf_piece, IsSameShelf};
+    ghost use Rattle.oss_io.specs.Shelves.{shelf_files, shelf_left, shelf_failing, shelf_calls, shelf_faults};
+    ghost use Rattle.oss_io.specs.Shelves.{shelf_piece, IsSameShelf};
 
     ghost held = { λ s name. file_bytes (shelf_files s) name };
 

@@ -1,7 +1,8 @@
 //! Sinks in memory, one with a room and chosen failures and one that only counts. They touch
 //! nothing outside.
 
-ghost use Rattle.std.specs.Prelude.{◌≡◌, ◌↔◌, ◌⊎◌, ◌<◌, ◌≤◌, ◌+◌, ◌-◌, ◌^◌, [], length, min, if◌then◌else◌, is_ok, Contains, Some, None, IsErr, IfOk, OnOk, OnErr, vec_len, vec_capacity};
+ghost use Rattle.std.specs.Prelude.{◌≡◌, ◌↔◌, ◌⊎◌, ◌<◌, ◌≤◌, ◌+◌, ◌-◌, ◌^◌, [], length, min, if◌then◌else◌, is_ok};
+ghost use Rattle.std.specs.Prelude.{Contains, Some, None, IsErr, IfOk, OnOk, OnErr, vec_len, vec_capacity};
 ghost use Rattle.std.specs.Io.KnownBytes.{WriteAppends};
 ghost use Rattle.oss_io.specs.Outside.{HasCause, Takes};
 ghost use Rattle.port_types.specs.Counts.{next_count};
@@ -27,7 +28,8 @@ pub struct MemorySink {
 }
 
 impl MemorySink {
-    ghost use Rattle.oss_io.specs.MemorySink.{sink_taken, sink_room, sink_failing, sink_piece, sink_writes, sink_faults};
+    ghost use Rattle.oss_io.specs.MemorySink.{sink_taken, sink_room, sink_failing, sink_piece, sink_writes};
+    ghost use Rattle.oss_io.specs.MemorySink.{sink_faults};
 
     /// A sink with room for so many bytes, which it takes now: a write takes no memory. Writes are
     /// counted from 1. A write of a piece that is not empty fails where its number is in `failing`
@@ -65,7 +67,8 @@ impl MemorySink {
 }
 
 impl Sink for MemorySink {
-    ghost use Rattle.oss_io.specs.MemorySink.{sink_taken, sink_room, sink_failing, sink_piece, sink_writes, sink_faults, IsSameSink};
+    ghost use Rattle.oss_io.specs.MemorySink.{sink_taken, sink_room, sink_failing, sink_piece, sink_writes};
+    ghost use Rattle.oss_io.specs.MemorySink.{sink_faults, IsSameSink};
 
     ghost taken = { λ s. Some (sink_taken s) };
 

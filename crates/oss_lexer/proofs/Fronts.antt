@@ -1,9 +1,11 @@
 -- What stands at the front of a text is a piece, and no other piece begins there.
-use Rattle.std.proofs.Common.{◌≡◌, ℕ, ◌<◌, ◌≤◌, suc, Bool, true, false, ◌&&◌, ◌⊎◌, inl, inr, List, [], ◌∷◌, ◌++◌, length, get_or, take, drop, Option, Some, None, refl, sym, ap, subst, ◌∙◌, arith, eqb}
+use Rattle.std.proofs.Common.{◌≡◌, ℕ, ◌<◌, ◌≤◌, suc, Bool, true, false, ◌&&◌, ◌⊎◌, inl, inr, List, [], ◌∷◌, ◌++◌, length, get_or, take, drop, Option, Some}
+use Rattle.std.proofs.Common.{None, refl, sym, ap, subst, ◌∙◌, arith, eqb}
 use Rattle.std.specs.Prelude.{◌==◌}
 use Rattle.std.specs.Char.{is_ascii_digit}
 use Rattle.std.specs.List.{list_all, prefix_len}
-use Rattle.std.proofs.lemmas.Bool.{cases_lt, and_parts, and_left, or_cases, or_from, cond_both, cond-true, cond-false, false≢true, eqb-true, eqb-false, ne_eqb, not-true}
+use Rattle.std.proofs.lemmas.Bool.{cases_lt, and_parts, and_left, or_cases, or_from, cond_both, cond-true, cond-false, false≢true, eqb-true, eqb-false}
+use Rattle.std.proofs.lemmas.Bool.{ne_eqb, not-true}
 use Rattle.std.proofs.lemmas.Bool.Decides.{nat_tests}
 use Rattle.std.proofs.lemmas.List.{take_at, take-append-drop, length-take-le, length-append}
 use Rattle.std.proofs.lemmas.List.Sums.{prefix_len-le-length}
@@ -11,7 +13,8 @@ use Rattle.std.specs.Str.Parse.{digits_value}
 use Rattle.oss_base.specs.declared.fault.FaultKind.{FaultKind}
 use Rattle.oss_base.specs.declared.fault.FaultKind.TheVariants.{F2, F4}
 use Rattle.oss_base.specs.Limits.{largest_numeral}
-use Rattle.oss_syntax.specs.Tokens.{symbols, is_blank, is_word_start, is_word_byte, is_comment_byte, begins_comment, IsBlank, IsComment, IsWord, IsNumeral, IsSymbol, IsPieceOf, IsWithinLimit, IsFaultAt}
+use Rattle.oss_syntax.specs.Tokens.{symbols, is_blank, is_word_start, is_word_byte, is_comment_byte, begins_comment, IsBlank, IsComment, IsWord, IsNumeral}
+use Rattle.oss_syntax.specs.Tokens.{IsSymbol, IsPieceOf, IsWithinLimit, IsFaultAt}
 use Rattle.oss_syntax.specs.declared.token.TokenKind.{TokenKind}
 use Rattle.oss_syntax.specs.declared.token.TokenKind.TheVariants.{Word, Numeral, Symbol}
 use Rattle.oss_lexer.specs.declared.front.Front.{Front}

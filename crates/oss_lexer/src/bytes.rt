@@ -4,7 +4,8 @@
 ghost use Rattle.std.specs.Prelude.{◌≡◌, ◌∷◌, [], ◌≤◌, ◌↔◌, true, take, length, IsTrue};
 ghost use Rattle.std.specs.Char.{is_ascii_digit};
 ghost use Rattle.std.specs.List.{prefix_len};
-ghost use Rattle.oss_syntax.specs.Tokens.{symbols, is_blank, is_word_start, is_word_byte, is_comment_byte, begins_comment};
+ghost use Rattle.oss_syntax.specs.Tokens.{symbols, is_blank, is_word_start, is_word_byte, is_comment_byte};
+ghost use Rattle.oss_syntax.specs.Tokens.{begins_comment};
 ghost use Rattle.oss_lexer.specs.Fronts.{longest_of, of_length, is_listed};
 
 /// Whether a byte is a space, a tab, a carriage return or a line feed.

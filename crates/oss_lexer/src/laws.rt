@@ -1,7 +1,8 @@
 //! What is always so of tokens and first lexing faults: laws, each on a function without code that may be called for
 //! its clause. Touches nothing.
 
-ghost use Rattle.oss_lexer.specs.Laws.{OneFirstFault, OnePiece, OneTokenList, TokensOrFault, TokensStand, TokensWithoutFault};
+ghost use Rattle.oss_lexer.specs.Laws.{OneFirstFault, OnePiece, OneTokenList, TokensOrFault, TokensStand};
+ghost use Rattle.oss_lexer.specs.Laws.{TokensWithoutFault};
 
 /// No two pieces begin at the same byte.
 pub fn one_piece()

@@ -9,7 +9,8 @@ use Rattle.oss_syntax.specs.declared.expression.Role.{Role}
 use Rattle.oss_syntax.specs.declared.terminal.Mark.TheVariants as mark
 use Rattle.oss_syntax.specs.Alphabet.{Terminal}
 use Rattle.oss_syntax.specs.Alphabet as terminal
-use Rattle.oss_syntax.specs.Expressions.{Tree, Name, Dotted, Numeral, Truth, Brackets, OfPort, Prefix, Binary, height, level, prefix_level, binary_level, left_level, right_level, allows_binary}
+use Rattle.oss_syntax.specs.Expressions.{Tree, Name, Dotted, Numeral, Truth, Brackets, OfPort, Prefix, Binary, height, level, prefix_level, binary_level}
+use Rattle.oss_syntax.specs.Expressions.{left_level, right_level, allows_binary}
 use Rattle.oss_syntax.specs.Formulas.{Spells}
 use Rattle.oss_reader.specs.Phrases.{EndsAtLevel, EndsLastOperand, HasInnerLeftEdge, HasLeftEdge, IsOperand, Phrase, OnlyPhrase, NoPhrase, PhrasesGoOnFrom}
 

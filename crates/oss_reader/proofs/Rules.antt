@@ -22,7 +22,8 @@ use Rattle.oss_reader.specs.Reads.{Sole, Nothing, SoleUntil, NothingUntil, IsMar
 use Rattle.oss_reader.specs.Rules.{IsPort, IsContract, IsSub, IsConnection, IsRefined}
 use Rattle.oss_reader.proofs.Grouping.{level-ten}
 use Rattle.oss_reader.proofs.Operands.{stops_semicolon}
-use Rattle.oss_reader.proofs.Sequences.{mark_step, name_step, phrase_step, no_mark, no_name, no_phrase, other_mark, mark_made, name_made, phrase_made, until_step, no_until, until_made, mark_apart}
+use Rattle.oss_reader.proofs.Sequences.{mark_step, name_step, phrase_step, no_mark, no_name, no_phrase, other_mark, mark_made, name_made, phrase_made}
+use Rattle.oss_reader.proofs.Sequences.{until_step, no_until, until_made, mark_apart}
 
 -- a whole expression and the semicolon after it
 closed_phrase : (role : Role) (ts : List Terminal) (whole : Tree) (rest : List Terminal) (h : Closed role ts whole rest)

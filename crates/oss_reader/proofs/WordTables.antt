@@ -8,7 +8,8 @@ use Rattle.std.proofs.lemmas.Slice.Eq.{bytes_eq-Decides}
 use Rattle.oss_base.specs.declared.place.Span.{Span}
 use Rattle.oss_syntax.specs.Alphabet.{Terminal}
 use Rattle.oss_syntax.specs.Alphabet as terminal
-use Rattle.oss_syntax.specs.Terminals.{Spelling, choose, as_terminal, structure_words, unsupported_words, truth_words, port_words, prefix_words, binary_words, binary_symbols, prefix_symbols, mark_symbols, unsupported_symbols, word_terminal, symbol_terminal}
+use Rattle.oss_syntax.specs.Terminals.{Spelling, choose, as_terminal, structure_words, unsupported_words, truth_words, port_words, prefix_words}
+use Rattle.oss_syntax.specs.Terminals.{binary_words, binary_symbols, prefix_symbols, mark_symbols, unsupported_symbols, word_terminal, symbol_terminal}
 use Rattle.oss_reader.specs.Words.{spellings_of_length, word_of_length, symbol_of_length, is_word_length, is_symbol_length}
 
 chosen_later : {A : Type 0} → (spelling : Spelling A) (table : List (Spelling A)) (text : List ℕ)

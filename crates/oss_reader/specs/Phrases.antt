@@ -9,7 +9,9 @@ use Rattle.oss_syntax.specs.declared.expression.Role.{Role}
 use Rattle.oss_syntax.specs.declared.terminal.Mark.TheVariants as mark
 use Rattle.oss_syntax.specs.Alphabet.{Terminal}
 use Rattle.oss_syntax.specs.Alphabet as terminal
-use Rattle.oss_syntax.specs.Expressions.{Tree, Name, Dotted, Numeral, Truth, Brackets, OfPort, Prefix, Binary, height, level, prefix_level, binary_level, left_level, right_level, allows_binary}
+use Rattle.oss_syntax.specs.Expressions.{Tree, Name, Dotted, Numeral, Truth, Brackets, OfPort, Prefix, Binary}
+use Rattle.oss_syntax.specs.Expressions.{height, level, prefix_level, binary_level, left_level, right_level}
+use Rattle.oss_syntax.specs.Expressions.{allows_binary}
 use Rattle.oss_syntax.specs.Formulas.{Spells}
 
 -- what is left does not go on with an expression of this level: it begins with no operator that binds

@@ -18,7 +18,8 @@ use Rattle.oss_syntax.specs.Formulas.{Closed}
 use Rattle.oss_syntax.specs.Items.{IsNextName, IsType, IsTarget, IsNextPart, IsParts}
 use Rattle.oss_syntax.specs.Steps.{Mark_then, Name_then, Phrase_then, RestIs, Many}
 use Rattle.oss_syntax.specs.Texts.{IsSystem, IsComponent, IsHead, IsText, IsNoText}
-use Rattle.oss_syntax.specs.Trees.{Component, Item, Port, RefinementItemTree, item_tree, refinement_item_tree, component_trees}
+use Rattle.oss_syntax.specs.Trees.{Component, Item, Port, RefinementItemTree, item_tree, refinement_item_tree}
+use Rattle.oss_syntax.specs.Trees.{component_trees}
 use Rattle.oss_base.specs.declared.fault.Stop.{Stop}
 use Rattle.oss_base.specs.declared.fault.Stop.TheVariants as stops
 use Rattle.oss_syntax.specs.declared.component.TreeComponent.{TreeComponent}

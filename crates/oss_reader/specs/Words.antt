@@ -5,7 +5,9 @@ use Rattle.std.specs.List.{filter}
 use Rattle.oss_base.specs.declared.place.Span.{Span}
 use Rattle.oss_syntax.specs.Alphabet.{Terminal}
 use Rattle.oss_syntax.specs.Alphabet as terminal
-use Rattle.oss_syntax.specs.Terminals.{Spelling, choose, as_terminal, structure_words, unsupported_words, truth_words, port_words, prefix_words, binary_words, binary_symbols, prefix_symbols, mark_symbols, unsupported_symbols}
+use Rattle.oss_syntax.specs.Terminals.{Spelling, choose, as_terminal, structure_words, unsupported_words}
+use Rattle.oss_syntax.specs.Terminals.{truth_words, port_words, prefix_words, binary_words, binary_symbols}
+use Rattle.oss_syntax.specs.Terminals.{prefix_symbols, mark_symbols, unsupported_symbols}
 
 -- the spellings of this length
 abbrev pub spellings_of_length : {A : Type 0} → ℕ → List (Spelling A) → List (Spelling A)

@@ -5,7 +5,8 @@ ghost use Rattle.oss_syntax.specs.Texts.{IsRefinement};
 ghost use Rattle.oss_syntax.specs.Trees.{refinement_tree, component_tree};
 ghost use Rattle.oss_reader.specs.Ahead.{ahead};
 ghost use Rattle.oss_reader.specs.Reads.{ReadsMinus, ReadsAs, ReadsUntil};
-ghost use Rattle.oss_reader.specs.Rules.{ReadsEnd, ReadsComponents, ReadsHead, ReadsSpec, AtComponent, IsWhole, SystemRead, AtEnd};
+ghost use Rattle.oss_reader.specs.Rules.{ReadsEnd, ReadsComponents, ReadsHead, ReadsSpec, AtComponent, IsWhole};
+ghost use Rattle.oss_reader.specs.Rules.{SystemRead, AtEnd};
 
 use crate::cursor::{after, broken, expect, expect_name, first_mark, is_at_end, minus, name};
 use crate::halt::Halt;

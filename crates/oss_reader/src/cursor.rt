@@ -3,7 +3,8 @@
 
 ghost use Rattle.std.specs.Prelude.{◌≡◌, [], MatchBool, IfOk};
 ghost use Rattle.oss_reader.specs.Ahead.{ahead};
-ghost use Rattle.oss_reader.specs.Reads.{FindsFirst, FindsMark, PassesMark, FindsName, FindsMinus, ReadsMark, ReadsName, ReadsNamed, IsStart, FollowsOperand};
+ghost use Rattle.oss_reader.specs.Reads.{FindsFirst, FindsMark, PassesMark, FindsName, FindsMinus, ReadsMark};
+ghost use Rattle.oss_reader.specs.Reads.{ReadsName, ReadsNamed, IsStart, FollowsOperand};
 
 use crate::halt::{Break, Halt};
 use crate::lead::Lead;

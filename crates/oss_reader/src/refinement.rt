@@ -5,7 +5,8 @@ ghost use Rattle.oss_syntax.specs.Items.{IsTarget, IsPart, IsParts, IsRefinement
 ghost use Rattle.oss_syntax.specs.Trees.{refinement_item_tree};
 ghost use Rattle.oss_reader.specs.Ahead.{ahead};
 ghost use Rattle.oss_reader.specs.Reads.{ReadsAs, Reads, ReadsUntil};
-ghost use Rattle.oss_reader.specs.Rules.{BeginsRefinementItem, connection_tree, refinement_trees, ReadsFurtherParts, IsSub, IsConnection, IsRefined, NoRefinementItem};
+ghost use Rattle.oss_reader.specs.Rules.{BeginsRefinementItem, connection_tree, refinement_trees};
+ghost use Rattle.oss_reader.specs.Rules.{ReadsFurtherParts, IsSub, IsConnection, IsRefined, NoRefinementItem};
 
 use crate::cursor::{after, expect, name};
 use crate::expressions::closed;

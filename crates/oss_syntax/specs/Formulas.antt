@@ -10,7 +10,9 @@ use Rattle.oss_syntax.specs.declared.expression.Role.TheVariants as roles
 use Rattle.oss_syntax.specs.declared.terminal.Mark.TheVariants as mark
 use Rattle.oss_syntax.specs.Alphabet.{Terminal}
 use Rattle.oss_syntax.specs.Alphabet as terminal
-use Rattle.oss_syntax.specs.Expressions.{Tree, Name, Dotted, Numeral, Truth, Brackets, OfPort, Prefix, Binary, height, level, prefix_level, left_level, right_level, allows_prefix, allows_binary}
+use Rattle.oss_syntax.specs.Expressions.{Tree, Name, Dotted, Numeral, Truth, Brackets, OfPort, Prefix, Binary}
+use Rattle.oss_syntax.specs.Expressions.{height, level, prefix_level, left_level, right_level, allows_prefix}
+use Rattle.oss_syntax.specs.Expressions.{allows_binary}
 
 -- the word `in`, and then the names `the` and `future`
 abbrev pub InTheFuture : List Terminal → Span → List Terminal → Type 0

@@ -11,7 +11,8 @@ use Rattle.oss_syntax.specs.declared.refinement.TargetTree.TheVariants as target
 use Rattle.oss_syntax.specs.declared.refinement.RefinementItem.{RefinementItem}
 use Rattle.oss_syntax.specs.declared.component.TreeComponent.{TreeComponent}
 use Rattle.oss_syntax.specs.Expressions.{Tree, Name, Dotted, Numeral, Truth, Brackets, OfPort, Prefix, Binary}
-use Rattle.oss_syntax.specs.Trees.{Item, Port, Contract, RefinementItemTree, Sub, Connection, Refined, Component, refinement_item_tree, refinement_tree, component_trees}
+use Rattle.oss_syntax.specs.Trees.{Item, Port, Contract, RefinementItemTree, Sub, Connection, Refined, Component}
+use Rattle.oss_syntax.specs.Trees.{refinement_item_tree, refinement_tree, component_trees}
 
 -- A specification without its spans: each of them is put to the same one. Two specifications are the
 -- same without spans where these are equal. Their texts may differ in blanks, comments, spellings,

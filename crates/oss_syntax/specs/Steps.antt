@@ -1,13 +1,11 @@
--- The steps by which a rule of the grammar is told.
+-- The steps by which a rule of the grammar is told, in the order of its right side, as in Wirth's extended Backus-Naur
+-- form: each says how the terminals begin, and hands what is left to the next.
 use Rattle.std.specs.Prelude.{◌≡◌, List, [], ◌∷◌}
 use Rattle.oss_base.specs.declared.place.Span.{Span}
 use Rattle.oss_syntax.specs.declared.words.Word.{Word}
 use Rattle.oss_syntax.specs.declared.terminal.Mark.{Mark}
 use Rattle.oss_syntax.specs.Alphabet.{Terminal}
 use Rattle.oss_syntax.specs.Alphabet as terminal
-
--- The steps by which a rule of the grammar is told, in the order of its right side, as in Wirth's
--- extended Backus-Naur form: each says how the terminals begin, and hands what is left to the next.
 
 -- a reserved word or symbol, then what `Next` says
 pub record Mark_then (mark : Mark) (Next : List Terminal → Type 0) (ts : List Terminal) : Type 0 where

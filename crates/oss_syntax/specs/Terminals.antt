@@ -1,5 +1,7 @@
--- What the tokens of a text are read as: the tables of reserved words and symbols.
-use Rattle.std.specs.Prelude.{ℕ, Bool, true, false, List, [], ◌∷◌, Option, Some, None, map, codes, bytes_eq, if◌then◌else◌}
+-- What the tokens of a text are read as: their terminals. A word or a symbol is looked up in the tables below; a word
+-- that stands in none of them is a name.
+use Rattle.std.specs.Prelude.{ℕ, Bool, true, false, List, [], ◌∷◌, Option, Some, None, map, codes, bytes_eq}
+use Rattle.std.specs.Prelude.{if◌then◌else◌}
 use Rattle.std.specs.Str.Parse.{digits_value}
 use Rattle.oss_base.specs.declared.place.Span.{Span}
 use Rattle.oss_syntax.specs.Tokens.{text_at}
@@ -17,9 +19,6 @@ use Rattle.oss_syntax.specs.declared.terminal.Mark.TheVariants as mark
 use Rattle.oss_syntax.specs.Alphabet.{Terminal}
 use Rattle.oss_syntax.specs.Alphabet as terminal
 
--- What the tokens of a text are read as: their terminals. A word or a symbol is looked up in the tables
--- below; a word that stands in none of them is a name.
-
 -- a spelling and what it stands for
 pub record Spelling (A : Type 0) : Type 0 where
   pub text : List ℕ
@@ -31,8 +30,8 @@ spells text means = record { text = text; means = means }
 -- what the first of these spellings that is this text stands for
 abbrev pub choose : {A : Type 0} → List (Spelling A) → List ℕ → Option A
 choose [] text = None
-choose (spelling
-    ∷ spellings) text = if bytes_eq text spelling.text then Some spelling.means else choose spellings text
+choose (spelling ∷ spellings) text =
+    if bytes_eq text spelling.text then Some spelling.means else choose spellings text
 
 abbrev pub structure_words : List (Spelling Mark)
 structure_words =

@@ -3,7 +3,8 @@
 -- A text is cut into pieces from left to right. A piece is a token or a gap between tokens, and takes
 -- the longest text that it can, as is usual for scanners (Aho, Lam, Sethi and Ullman, Compilers,
 -- section 3). Which bytes follow a piece is part of what makes it one.
-use Rattle.std.specs.Prelude.{◌≡◌, ◌≢◌, ℕ, ◌+◌, ◌<◌, ◌≤◌, ◌==◌, ◌&&◌, ◌||◌, Bool, false, not, ◌⊎◌, List, [], ◌∷◌, ◌++◌, length, slice_range, codes, IsTrue, Contains, Option, Some, None}
+use Rattle.std.specs.Prelude.{◌≡◌, ◌≢◌, ℕ, ◌+◌, ◌<◌, ◌≤◌, ◌==◌, ◌&&◌, ◌||◌, Bool, false, not, ◌⊎◌, List, [], ◌∷◌}
+use Rattle.std.specs.Prelude.{◌++◌, length, slice_range, codes, IsTrue, Contains, Option, Some, None}
 use Rattle.std.specs.Char.{is_ascii_digit, is_ascii_alphabetic, is_ascii_alphanumeric}
 use Rattle.std.specs.List.{list_all, flat_map}
 use Rattle.std.specs.Str.Parse.{digits_value}

@@ -1,7 +1,8 @@
 //! Expressions as they are written, and the words that stand in them. Main items: `Expr`, `Role`.
 
 ghost use Rattle.std.specs.Prelude.{◌≡◌, IfOk};
-ghost use Rattle.oss_syntax.specs.Expressions.{tree, Tree, prefix_level, binary_level, left_level, right_level, allows_prefix, allows_binary};
+ghost use Rattle.oss_syntax.specs.Expressions.{tree, Tree, prefix_level, binary_level, left_level, right_level};
+ghost use Rattle.oss_syntax.specs.Expressions.{allows_prefix, allows_binary};
 
 use crate::words::Word;
 use oss_base::Span;

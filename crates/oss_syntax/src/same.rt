@@ -2,7 +2,8 @@
 
 ghost use Rattle.std.specs.Prelude.{◌≡◌, ◌↔◌, IsTrue, map};
 ghost use Rattle.oss_syntax.specs.Expressions.{tree};
-ghost use Rattle.oss_syntax.specs.Spanless.{bare_bound, bare_type, bare_target, bare_tree, bare_item, AreSameSpecs, AreSameRefinementItems, AreSameRefinements, AreSameMarks};
+ghost use Rattle.oss_syntax.specs.Spanless.{bare_bound, bare_type, bare_target, bare_tree, bare_item, AreSameSpecs};
+ghost use Rattle.oss_syntax.specs.Spanless.{AreSameRefinementItems, AreSameRefinements, AreSameMarks};
 ghost use Rattle.oss_syntax.specs.Trees.{item_tree};
 
 use crate::component::{SpecTree, TreeComponent};

@@ -1,6 +1,7 @@
 -- Types and their values: a type is a finite list of values, as the enumerated and subrange types of
 -- N. Wirth, The programming language Pascal (1971), are.
-use Rattle.std.specs.Prelude.{ℕ, ◌<◌, ◌^◌, ◌≢◌, ℤ, pos, negsuc, ◌+ℤ◌, ◌-ℤ◌, neg_ℤ, ◌≤ℤ◌, false, true, List, [], ◌∷◌, map, length, All, AllPairs, Contains}
+use Rattle.std.specs.Prelude.{ℕ, ◌<◌, ◌^◌, ◌≢◌, ℤ, pos, negsuc, ◌+ℤ◌, ◌-ℤ◌, neg_ℤ, ◌≤ℤ◌, false, true, List, []}
+use Rattle.std.specs.Prelude.{◌∷◌, map, length, All, AllPairs, Contains}
 use Rattle.std.specs.List.{range_with_len}
 use Rattle.port_types.specs.Limits.{largest_numeral}
 use Rattle.port_types.specs.declared.types.PortType.{PortType}

@@ -1,7 +1,8 @@
 //! Names, and lists that contracts see as plain lists: of names, of bytes, of sets and of whatever a crate
 //! above keeps. They touch memory alone.
 
-ghost use Rattle.std.specs.Prelude.{◌≡◌, [], ◌∷◌, ◌++◌, ◌↔◌, IsTrue, IfOk, OnOk, OnErr, All, Contains, length, string_bytes};
+ghost use Rattle.std.specs.Prelude.{◌≡◌, [], ◌∷◌, ◌++◌, ◌↔◌, IsTrue, IfOk, OnOk, OnErr, All, Contains, length};
+ghost use Rattle.std.specs.Prelude.{string_bytes};
 
 use crate::memory::NoMemory;
 use crate::sets::Set24;

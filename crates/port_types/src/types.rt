@@ -1,8 +1,10 @@
 //! Types and values: membership, inclusion, the number of values and each value by its place. Only the
 //! copies and `value` take memory.
 
-ghost use Rattle.std.specs.Prelude.{◌≡◌, ◌≢◌, ◌≤◌, ◌↔◌, ◌+ℤ◌, pos, [], IsTrue, IfOk, IsNone, Contains, length, slice_get};
-ghost use Rattle.port_types.specs.Types.{values, range_size, IsOfType, IsIncluded, IsWithin, IsSignedNumeral, IsDeclarable};
+ghost use Rattle.std.specs.Prelude.{◌≡◌, ◌≢◌, ◌≤◌, ◌↔◌, ◌+ℤ◌, pos, [], IsTrue, IfOk, IsNone, Contains, length};
+ghost use Rattle.std.specs.Prelude.{slice_get};
+ghost use Rattle.port_types.specs.Types.{values, range_size, IsOfType, IsIncluded, IsWithin, IsSignedNumeral};
+ghost use Rattle.port_types.specs.Types.{IsDeclarable};
 
 use crate::lists::{Name, Names, TryCopy, are_among, is_among};
 use crate::memory::NoMemory;

@@ -1,4 +1,5 @@
-use Rattle.std.proofs.Common.{◌≡◌, ℕ, zero, suc, ◌+◌, Bool, true, false, ◌||◌, List, [], ◌∷◌, ◌++◌, length, take, get_or, ◌<◌, slice_get, Some, refl, sym, ap, ◌∙◌, arith, append_assoc, subst}
+use Rattle.std.proofs.Common.{◌≡◌, ℕ, zero, suc, ◌+◌, Bool, true, false, ◌||◌, List, [], ◌∷◌, ◌++◌, length, take, get_or, ◌<◌, slice_get, Some, refl, sym}
+use Rattle.std.proofs.Common.{ap, ◌∙◌, arith, append_assoc, subst}
 use Rattle.std.specs.Prelude.{if◌then◌else◌}
 use Rattle.std.specs.List.{list_any, list_all}
 use Rattle.std.proofs.lemmas.Bool.{false≢true}
@@ -25,7 +26,8 @@ answers_pushed item k (u ∷ vs) v =
     rw z (ap (λ (xs : List Answer). answer (obligation_of item k) u ∷ xs) (answers_pushed item (k + 1) vs v))
 
 -- one more level
-pub level_pushed : (spec : Spec) (n : ℕ) (items : List Item) (answers : List Answer) (item : Item) (vs : List Verdict) → AreAnswersFrom spec n items answers → AreVerdicts spec item vs
+pub level_pushed : (spec : Spec) (n : ℕ) (items : List Item) (answers : List Answer) (item : Item) (vs : List Verdict)
+    → AreAnswersFrom spec n items answers → AreVerdicts spec item vs
     → AreAnswersFrom spec n (items ++ item ∷ []) (answers ++ level_answers (n + length items) vs)
 level_pushed spec n [] answers item vs h v =
     let z : n + 0 ≡ n = omega arith in
@@ -39,7 +41,8 @@ level_pushed spec n (x ∷ items) answers item vs h v =
       level_pushed spec (n + 1) items h.1 item vs h.4 v,
     )
 
-taken : {X : Type 0} (xs : List X) (i : ℕ) (x : X) → i < length xs → x ≡ get_or xs i x → take (i + 1) xs ≡ take i xs ++ x ∷ []
+taken : {X : Type 0} (xs : List X) (i : ℕ) (x : X) → i < length xs → x ≡ get_or xs i x
+    → take (i + 1) xs ≡ take i xs ++ x ∷ []
 taken xs i x l e = take_more xs i x l ∙ ap (λ u. take i xs ++ u ∷ []) (sym e)
 
 length_taken : {X : Type 0} (xs : List X) (i : ℕ) → i < length xs → length (take i xs) ≡ i
@@ -48,8 +51,10 @@ length_taken (x ∷ xs) zero l = refl
 length_taken (x ∷ xs) (suc i) l = ap suc (length_taken xs i (omega arith))
 
 -- the answers of a level, one more
-pub level_step : (item : ItemId) (vs : List Verdict) (i : ℕ) (v : Verdict) (name : ObligationName) (old now new : List Answer) → i < length vs → v ≡ get_or vs i v
-    → name ≡ obligation_of item i → now ≡ old ++ answers_from item 0 (take i vs) → new ≡ now ++ answer name v ∷ [] → new ≡ old ++ answers_from item 0 (take (i + 1) vs)
+pub level_step : (item : ItemId) (vs : List Verdict) (i : ℕ) (v : Verdict) (name : ObligationName) (old now new : List Answer) → i < length vs
+    → v ≡ get_or vs i v
+    → name ≡ obligation_of item i → now ≡ old ++ answers_from item 0 (take i vs) → new ≡ now ++ answer name v ∷ []
+    → new ≡ old ++ answers_from item 0 (take (i + 1) vs)
 level_step item vs i v name old now new l e n h p =
     let t : length (take i vs) ≡ i = length_taken vs i l in
     let z : 0 + length (take i vs) ≡ i = omega arith in
@@ -58,8 +63,10 @@ level_step item vs i v name old now new l e n h p =
     rw p (rw h (rw pushed (append_assoc old (answers_from item 0 (take i vs)) (answer name v ∷ []))))
 
 -- one more level of those of a list
-pub levels_step : (spec : Spec) (items : List Item) (i : ℕ) (item : Item) (vs : List Verdict) (n : ℕ) (old new : List Answer) → i < length items → item ≡ get_or items i item → n ≡ i
-    → AreAnswersFrom spec 0 (take i items) old → AreVerdicts spec item vs → new ≡ old ++ level_answers n vs → AreAnswersFrom spec 0 (take (i + 1) items) new
+pub levels_step : (spec : Spec) (items : List Item) (i : ℕ) (item : Item) (vs : List Verdict) (n : ℕ) (old new : List Answer) → i < length items
+    → item ≡ get_or items i item → n ≡ i
+    → AreAnswersFrom spec 0 (take i items) old → AreVerdicts spec item vs → new ≡ old ++ level_answers n vs
+    → AreAnswersFrom spec 0 (take (i + 1) items) new
 levels_step spec items i item vs n old new l e same h v p =
     let t : length (take i items) ≡ i = length_taken items i l in
     let z : 0 + length (take i items) ≡ i = omega arith in
@@ -72,12 +79,14 @@ zero_parts true b e = absurd (omega arith)
 zero_parts false true e = absurd (omega arith)
 zero_parts false false e = (refl, refl)
 
-one_left : (v : Verdict) (r u : Bool) → (says_refuted v || r) ≡ false → (says_undecided v || u) ≡ false → (says_proved v ≡ true) × (r ≡ false) × (u ≡ false)
+one_left : (v : Verdict) (r u : Bool) → (says_refuted v || r) ≡ false → (says_undecided v || u) ≡ false
+    → (says_proved v ≡ true) × (r ≡ false) × (u ≡ false)
 one_left verdict.Proved r u e f = (refl, e, f)
 one_left verdict.Undecided r u e f = absurd (false≢true (sym f))
 one_left (verdict.Refuted lasso) r u e f = absurd (false≢true (sym e))
 
-none_left : (answers : List Answer) → list_any is_refuted answers ≡ false → list_any is_undecided answers ≡ false → list_all is_proved answers ≡ true
+none_left : (answers : List Answer) → list_any is_refuted answers ≡ false → list_any is_undecided answers ≡ false
+    → list_all is_proved answers ≡ true
 none_left [] e f = refl
 none_left (a ∷ answers) e f =
     let p = one_left a.verdict (list_any is_refuted answers) (list_any is_undecided answers) e f in
@@ -86,15 +95,18 @@ none_left (a ∷ answers) e f =
 all_proved : (answers : List Answer) → status answers ≡ 0 → list_all is_proved answers ≡ true
 all_proved answers e = let p = zero_parts (list_any is_refuted answers) (list_any is_undecided answers) e in none_left answers p.0 p.1
 
-proved_from : (item : ItemId) (k : ℕ) (vs : List Verdict) (rest : List Answer) → list_all is_proved (answers_from item k vs ++ rest) ≡ true
+proved_from : (item : ItemId) (k : ℕ) (vs : List Verdict) (rest : List Answer)
+    → list_all is_proved (answers_from item k vs ++ rest) ≡ true
     → AreProved vs × (list_all is_proved rest ≡ true)
 proved_from item k [] rest e = (tt, e)
 proved_from item k (verdict.Proved ∷ vs) rest e = proved_from item (k + 1) vs rest e
 proved_from item k (verdict.Undecided ∷ vs) rest e = absurd (false≢true e)
 proved_from item k (verdict.Refuted lasso ∷ vs) rest e = absurd (false≢true e)
 
-levels_proved : (spec : Spec) (n : ℕ) (items : List Item) (answers : List Answer) → AreAnswersFrom spec n items answers → list_all is_proved answers ≡ true
-    → (m : ℕ) (item : Item) → slice_get items m ≡ Some item → (vs : List Verdict) × AreVerdicts spec item vs × AreProved vs
+levels_proved : (spec : Spec) (n : ℕ) (items : List Item) (answers : List Answer)
+    → AreAnswersFrom spec n items answers → list_all is_proved answers ≡ true
+    → (m : ℕ) (item : Item) → slice_get items m ≡ Some item
+    → (vs : List Verdict) × AreVerdicts spec item vs × AreProved vs
 levels_proved spec n [] answers h p m item e = cc
 levels_proved spec n (x ∷ items) answers h p zero item e =
     let same : x ≡ item = cc in

@@ -4,7 +4,8 @@ use Rattle.std.proofs.lemmas.List.{flat_map_more, get_or_default}
 
 -- Loops over two lists side by side.
 
-zip_taken : {X Y : Type 0} (xs : List X) (ys : List Y) (i : ℕ) (x : X) (y : Y) → i < length xs → i < length ys → x ≡ get_or xs i x → y ≡ get_or ys i y
+zip_taken : {X Y : Type 0} (xs : List X) (ys : List Y) (i : ℕ) (x : X) (y : Y) → i < length xs → i < length ys
+    → x ≡ get_or xs i x → y ≡ get_or ys i y
     → take i (zip xs ys) ++ (x, y) ∷ [] ≡ take (i + 1) (zip xs ys)
 zip_taken [] ys i x y l m e f = absurd (omega arith)
 zip_taken (a ∷ xs) [] i x y l m e f = absurd (omega arith)
@@ -27,7 +28,8 @@ pub zip_more_read : {X Y A : Type 0} (f : X × Y → List A) (old now : List A) 
 zip_more_read f old now xs ys i x d l m e h = zip_more f old now xs ys i x (get_or ys i d) l m e (get_or_default ys i d (get_or ys i d) m) h
 
 -- all pairs
-pub zip_whole : {X Y : Type 0} (xs : List X) (ys : List Y) (n : ℕ) → n ≡ min (length xs) (length ys) → take n (zip xs ys) ≡ zip xs ys
+pub zip_whole : {X Y : Type 0} (xs : List X) (ys : List Y) (n : ℕ) → n ≡ min (length xs) (length ys)
+    → take n (zip xs ys) ≡ zip xs ys
 zip_whole [] ys n e = let z : n ≡ 0 = omega arith in rw z refl
 zip_whole (a ∷ xs) [] n e = let z : n ≡ 0 = omega arith in rw z refl
 zip_whole (a ∷ xs) (b ∷ ys) zero e = absurd (omega arith)

@@ -1,13 +1,12 @@
 //! Answers to obligations, and the exit status that they lead to.
 
-ghost use Rattle.std.specs.Prelude.{◌≡◌, [], ◌∷◌, ◌++◌, ◌↔◌, IsTrue, OnOk, OnErr, length};
+ghost use Rattle.std.specs.Prelude.{◌≡◌};
 ghost use Rattle.std.specs.List.{list_any};
-ghost use Rattle.report.specs.Answers.{is_refuted as answers_refuted, is_undecided as answers_undecided, status as status_by};
+ghost use Rattle.report.specs.Answers.{is_refuted as answers_refuted, is_undecided as answers_undecided};
+ghost use Rattle.report.specs.Answers.{status as status_by};
 
 use obligations::ObligationName;
-use port_types::NoMemory;
-use std::alloc::Global;
-use std::marker::Model;
+use port_types::ListOf;
 use typed_ltl::Verdict;
 
 /// An obligation and its verdict. A lasso of the verdict gives each free port of the obligation's
@@ -18,57 +17,8 @@ pub struct Answer {
     pub verdict: Verdict,
 }
 
-/// Answers in the order of the obligations. Contracts see the list of them.
-#[derive(Debug, Drop)]
-pub struct Answers {
-    answers: Vec<Answer>,
-}
-
-impl Model for Answers {
-    ghost use Rattle.std.specs.Prelude.{List};
-    ghost use Rattle.report.specs.declared.answers.Answer.{Answer};
-
-    ghost Value = { List Answer };
-
-    ghost view = { λ l. l.answers.items };
-}
-
-impl Answers {
-    pub fn new(alloc: Global) -> Answers
-        ensures { result ≡ [] }
-    {
-        Answers {
-            answers: Vec::new(alloc),
-        }
-    }
-
-    pub fn as_slice(&self) -> &[Answer]
-        ensures { result.now ≡ self.now }
-    {
-        self.answers.as_slice()
-    }
-
-    pub fn len(&self) -> usize
-        ensures { result ≡ length self.now }
-    {
-        self.answers.len()
-    }
-
-    pub fn is_empty(&self) -> bool
-        ensures { IsTrue result ↔ (self.now ≡ []) }
-    {
-        self.answers.is_empty()
-    }
-
-    /// Puts an answer at the end.
-    pub fn push(&mut self, answer: Answer) -> Result<(), NoMemory>
-        ensures ok { OnOk result (self.new ≡ self.old ++ answer ∷ []) }
-        ensures err { OnErr result (self.new ≡ self.old) }
-    {
-        self.answers.push(answer)?;
-        Ok(())
-    }
-}
+/// Answers in the order of the obligations.
+pub type Answers = ListOf<Answer>;
 
 fn is_refuted(answer: &Answer) -> bool
     ensures { result ≡ answers_refuted answer.now }

@@ -3,7 +3,9 @@
 ghost use Rattle.std.specs.Prelude.{◌≡◌, ◌++◌, IfOk, OnOk, slice_get};
 ghost use Rattle.std.specs.List.{flat_map, count_by};
 ghost use Rattle.report.specs.Answers.{is_proved, is_refuted, is_undecided};
-ghost use Rattle.report.specs.CheckTexts.{answer_text, check_text, obligation_component as component_by, obligation_item as item_by, shown_lasso, totals_text, verdict_word as word_of};
+ghost use Rattle.report.specs.CheckTexts.{answer_text, check_text, obligation_component as component_by};
+ghost use Rattle.report.specs.CheckTexts.{obligation_item as item_by, shown_lasso, totals_text};
+ghost use Rattle.report.specs.CheckTexts.{verdict_word as word_of};
 
 use crate::answers::{Answer, Answers};
 use crate::free_ports::free_names;

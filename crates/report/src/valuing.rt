@@ -2,7 +2,8 @@
 
 ghost use Rattle.architecture.specs.Propositional.{IsPropositionalSpec};
 ghost use Rattle.std.specs.Prelude.{◌≡◌, ◌∷◌, ◌++◌, [], IfOk, OnOk};
-ghost use Rattle.report.specs.AllAnswers.{answer, answers_from, obligation_of as obligation_at, AreAnswers, SuccessIsSafe};
+ghost use Rattle.report.specs.AllAnswers.{answer, answers_from, obligation_of as obligation_at, AreAnswers};
+ghost use Rattle.report.specs.AllAnswers.{SuccessIsSafe};
 
 use crate::answers::{Answer, Answers};
 use architecture::Spec;

@@ -8,13 +8,15 @@ use Rattle.sat_core.specs.declared.clause_ref.ClauseRef.{ClauseRef}
 use Rattle.sat_core.specs.declared.clause_ref.ClauseRef.TheVariants.{Added, Learnt, Assumed}
 use Rattle.sat_core.specs.declared.trail.Step.{Step}
 use Rattle.sat_core.specs.declared.chain.Resolution.{Resolution}
-use Rattle.sat_core.specs.Search.{ClauseLists, clause_lists, HasClause, clause_of, ResolvesTo, IsDerivation, lit_at, MadeTrue, AllFalse, Forces, opens_level, IsWithout, IsJoined}
+use Rattle.sat_core.specs.Search.{ClauseLists, clause_lists, HasClause, clause_of, ResolvesTo, IsDerivation, lit_at, MadeTrue, AllFalse, Forces}
+use Rattle.sat_core.specs.Search.{opens_level, IsWithout, IsJoined}
 use Rattle.sat_core.proofs.Trails.{opposite-opposite}
 
 pub same-refl : (xs : List Lit) → SameLits xs xs
 same-refl xs = λ lit. (λ h. h, λ h. h)
 
-resolves-same : (xs ys right after : List Lit) (pivot : Lit) → SameLits xs ys → Resolves ys right pivot after → Resolves xs right pivot after
+resolves-same : (xs ys right after : List Lit) (pivot : Lit) → SameLits xs ys → Resolves ys right pivot after
+    → Resolves xs right pivot after
 resolves-same xs ys right after pivot s r = record {
   on_left = (s pivot).1 r.on_left;
   on_right = r.on_right;
@@ -25,21 +27,27 @@ resolves-same xs ys right after pivot s r = record {
 }
 
 -- one resolution more
-pub ResolvesTo-push : (k : ClauseLists) (so_far mid after : List Lit) (resolutions : List Resolution) (resolution : Resolution) (pivot : Lit) → ResolvesTo k so_far resolutions mid → HasClause k resolution.reason → pivot.var ≡ resolution.var → Resolves mid (clause_of k resolution.reason) pivot after → ResolvesTo k so_far (resolutions ++ resolution ∷ []) after
+pub ResolvesTo-push : (k : ClauseLists) (so_far mid after : List Lit) (resolutions : List Resolution) (resolution : Resolution) (pivot : Lit)
+    → ResolvesTo k so_far resolutions mid → HasClause k resolution.reason → pivot.var ≡ resolution.var
+    → Resolves mid (clause_of k resolution.reason) pivot after → ResolvesTo k so_far (resolutions ++ resolution ∷ []) after
 ResolvesTo-push k so_far mid after [] resolution pivot h names var r =
     (names, (pivot, after, var, resolves-same so_far mid (clause_of k resolution.reason) after pivot h r, same-refl after))
 ResolvesTo-push k so_far mid after (l ∷ resolutions) resolution pivot h names var r =
     (h.0, (h.1.0, h.1.1, h.1.2, h.1.3, ResolvesTo-push k h.1.1 mid after resolutions resolution pivot h.1.4 names var r))
 
-pub IsDerivation-push : (k : ClauseLists) (first : ClauseRef) (mid after : List Lit) (resolutions : List Resolution) (resolution : Resolution) (pivot : Lit) → IsDerivation k first resolutions mid → HasClause k resolution.reason → pivot.var ≡ resolution.var → Resolves mid (clause_of k resolution.reason) pivot after → IsDerivation k first (resolutions ++ resolution ∷ []) after
+pub IsDerivation-push : (k : ClauseLists) (first : ClauseRef) (mid after : List Lit) (resolutions : List Resolution) (resolution : Resolution)
+    (pivot : Lit) → IsDerivation k first resolutions mid → HasClause k resolution.reason → pivot.var ≡ resolution.var
+    → Resolves mid (clause_of k resolution.reason) pivot after → IsDerivation k first (resolutions ++ resolution ∷ []) after
 IsDerivation-push k first mid after resolutions resolution pivot d names var r =
     record { named = d.named; reached = ResolvesTo-push k (clause_of k first) mid after resolutions resolution pivot d.reached names var r }
 
-pub IsDerivation-start : (k : ClauseLists) (first : ClauseRef) → HasClause k first → IsDerivation k first [] (clause_of k first)
+pub IsDerivation-start : (k : ClauseLists) (first : ClauseRef) → HasClause k first
+    → IsDerivation k first [] (clause_of k first)
 IsDerivation-start k first names = record { named = names; reached = same-refl (clause_of k first) }
 
 -- made true before the place after, or there
-pub before_or_at : (steps : List Step) (n at : ℕ) (lit : Lit) → n ≡ at + 1 → MadeTrue steps n lit → MadeTrue steps at lit ⊎ (lit_at steps at ≡ lit)
+pub before_or_at : (steps : List Step) (n at : ℕ) (lit : Lit) → n ≡ at + 1 → MadeTrue steps n lit
+    → MadeTrue steps at lit ⊎ (lit_at steps at ≡ lit)
 before_or_at steps n at lit e t =
     elim (cases_eq t.0 at) [
       | inl here ↦ inr (ap (λ p. lit_at steps p) (sym here) ∙ t.2)
@@ -47,7 +55,8 @@ before_or_at steps n at lit e t =
     ]
 
 -- a literal of the trail that is not used is passed by
-pub skip_false : (steps : List Step) (n at : ℕ) (clause : List Lit) → n ≡ at + 1 → AllFalse steps n clause → (Contains clause (opposite (lit_at steps at)) → ⊥) → AllFalse steps at clause
+pub skip_false : (steps : List Step) (n at : ℕ) (clause : List Lit) → n ≡ at + 1 → AllFalse steps n clause
+    → (Contains clause (opposite (lit_at steps at)) → ⊥) → AllFalse steps at clause
 skip_false steps n at clause e false' unused lit has =
     elim (before_or_at steps n at (opposite lit) e (false' lit has)) [
       | inl before ↦ before
@@ -55,7 +64,9 @@ skip_false steps n at clause e false' unused lit has =
     ]
 
 -- a resolution with the reason of the literal leaves literals that were false before it
-pub resolve_false : (steps : List Step) (n at : ℕ) (left clause after : List Lit) (lit : Lit) → n ≡ at + 1 → lit_at steps at ≡ lit → AllFalse steps n left → Forces steps at clause lit → Resolves left clause (opposite lit) after → AllFalse steps at after
+pub resolve_false : (steps : List Step) (n at : ℕ) (left clause after : List Lit) (lit : Lit) → n ≡ at + 1
+    → lit_at steps at ≡ lit → AllFalse steps n left → Forces steps at clause lit
+    → Resolves left clause (opposite lit) after → AllFalse steps at after
 resolve_false steps n at left clause after lit e is false' forces r m has =
     elim ((r.resolvent m).0 has) [
       | inl l ↦ elim (before_or_at steps n at (opposite m) e (false' m l.0)) [
@@ -77,7 +88,10 @@ none_false steps [] h = refl
 none_false steps (x ∷ xs) h = absurd (omega (arith, (h x (Contains-head x xs)).1))
 
 -- the removal of a literal from one side and of its opposite from the other
-pub resolves_from : (left right mid after : List Lit) (lit : Lit) → Contains left (opposite lit) → Contains right lit → ((m : Lit) → (Contains mid m → Contains left m × (m ≢ opposite lit)) × (Contains left m × (m ≢ opposite lit) → Contains mid m)) → ((m : Lit) → (Contains after m → Contains mid m ⊎ (Contains right m × (m ≢ lit))) × (Contains mid m ⊎ (Contains right m × (m ≢ lit)) → Contains after m)) → Resolves left right (opposite lit) after
+pub resolves_from : (left right mid after : List Lit) (lit : Lit) → Contains left (opposite lit) → Contains right lit
+    → ((m : Lit) → (Contains mid m → Contains left m × (m ≢ opposite lit)) × (Contains left m × (m ≢ opposite lit) → Contains mid m))
+    → ((m : Lit) → (Contains after m → Contains mid m ⊎ (Contains right m × (m ≢ lit))) ×
+    (Contains mid m ⊎ (Contains right m × (m ≢ lit)) → Contains after m)) → Resolves left right (opposite lit) after
 resolves_from left right mid after lit on_left on_right dropped resolvent = record {
   on_left = on_left;
   on_right = subst (λ l. Contains right l) (sym (opposite-opposite lit)) on_right;
@@ -87,7 +101,9 @@ resolves_from left right mid after lit on_left on_right dropped resolvent = reco
   );
 }
 
-pub resolved : (left right mid after sl r : List Lit) (lit neg : Lit) → sl ≡ left → neg ≡ opposite lit → r ≡ right → IsWithout sl neg mid → IsJoined mid r lit after → Contains left (opposite lit) → Contains right lit → Resolves left right (opposite lit) after
+pub resolved : (left right mid after sl r : List Lit) (lit neg : Lit) → sl ≡ left → neg ≡ opposite lit → r ≡ right
+    → IsWithout sl neg mid → IsJoined mid r lit after → Contains left (opposite lit) → Contains right lit
+    → Resolves left right (opposite lit) after
 resolved left right mid after sl r lit neg e1 e2 e3 d j on_left on_right =
     let d1 = subst (λ (n : Lit). IsWithout sl n mid) e2 d in
     let d2 = subst (λ (l : List Lit). IsWithout l (opposite lit) mid) e1 d1 in
@@ -95,7 +111,9 @@ resolved left right mid after sl r lit neg e1 e2 e3 d j on_left on_right =
     resolves_from left right mid after lit on_left on_right d2 j1
 
 -- a clause that was added or learnt needs no assumption
-pub named_without : (added learnt : List (List Lit)) (assumed : List Lit) (reason : ClauseRef) → opens_level (Some reason) ≡ false → HasClause (clause_lists added learnt assumed) reason → HasClause (clause_lists added learnt []) reason × (clause_of (clause_lists added learnt []) reason ≡ clause_of (clause_lists added learnt assumed) reason)
+pub named_without : (added learnt : List (List Lit)) (assumed : List Lit) (reason : ClauseRef)
+    → opens_level (Some reason) ≡ false → HasClause (clause_lists added learnt assumed) reason
+    → HasClause (clause_lists added learnt []) reason × (clause_of (clause_lists added learnt []) reason ≡ clause_of (clause_lists added learnt assumed) reason)
 named_without added learnt assumed (Added place) o n = (n, refl)
 named_without added learnt assumed (Learnt place) o n = (n, refl)
 named_without added learnt assumed (Assumed place) o n = absurd (cc)

@@ -1,6 +1,8 @@
 -- A log made of derivations derives.
-use Rattle.std.proofs.Common.{◌≡◌, ◌≢◌, ◌<◌, ◌≤◌, ◌+◌, ◌-◌, ◌^◌, ℕ, zero, suc, Bool, true, false, List, [], ◌∷◌, ◌++◌, length, take, get_or, set, map, Some, slice_get, refl, sym, ap, ◌∙◌, subst, inl, inr, ◌⊎◌, arith, length-append}
-use Rattle.std.proofs.lemmas.List.{get_or_append_left, get_or-append_right, get_or_push, length_push, take-append-le, take_all, length-take, length-map, map_push, append_assoc, get_or-take, get_or_read, get_or-set_same, get_or-set_other, set_past, length-set}
+use Rattle.std.proofs.Common.{◌≡◌, ◌≢◌, ◌<◌, ◌≤◌, ◌+◌, ◌-◌, ◌^◌, ℕ, zero, suc, Bool, true, false, List, [], ◌∷◌, ◌++◌, length, take, get_or, set, map}
+use Rattle.std.proofs.Common.{Some, slice_get, refl, sym, ap, ◌∙◌, subst, inl, inr, ◌⊎◌, arith, length-append}
+use Rattle.std.proofs.lemmas.List.{get_or_append_left, get_or-append_right, get_or_push, length_push, take-append-le, take_all, length-take, length-map}
+use Rattle.std.proofs.lemmas.List.{map_push, append_assoc, get_or-take, get_or_read, get_or-set_same, get_or-set_other, set_past, length-set}
 use Rattle.std.proofs.lemmas.Bool.{cases_lt, cases_eq}
 use Rattle.std.proofs.lemmas.Option.{slice_get_within, slice_get-get_or, get_or_from_slice_get}
 use Rattle.cnf.specs.declared.lit.Lit.{Lit}
@@ -13,14 +15,20 @@ use Rattle.sat_core.specs.declared.chain.Resolution.{Resolution}
 use Rattle.sat_core.specs.declared.chain.Derivation.{Derivation}
 use Rattle.sat_core.specs.Search.{ClauseLists, clause_lists, unit_clause, HasClause, clause_of, ResolvesTo, IsDerivation}
 use Rattle.sat_core.specs.Decisions.{AreDerivations}
-use Rattle.sat_core.specs.Numbering.{log_number, log_pivot, HasNumber, AllHaveNumbers, IsBelow, AllBelow, IsNeeded, AllNeeded, clauses_with_units, IsNumbered, marks_with, MarksMore, AreBelow, AreNeeded}
+use Rattle.sat_core.specs.Numbering.{log_number, log_pivot, HasNumber, AllHaveNumbers, IsBelow, AllBelow, IsNeeded, AllNeeded, clauses_with_units}
+use Rattle.sat_core.specs.Numbering.{IsNumbered, marks_with, MarksMore, AreBelow, AreNeeded}
 
 -- the sources that are needed name in the list of clauses, by their numbers, what they name
 abbrev pub IsPlaced : ClauseLists → List Bool → (ClauseRef → ℕ) → List (List Lit) → Type 0
 IsPlaced k needed number clauses =
-    (reason : ClauseRef) → HasClause k reason → IsNeeded needed reason → (number reason < length clauses) × (get_or clauses (number reason) [] ≡ clause_of k reason)
+    (reason : ClauseRef) → HasClause k reason → IsNeeded needed reason → (number reason < length clauses) ×
+    (get_or clauses (number reason) [] ≡ clause_of k reason)
 
-leads : (k : ClauseLists) (needed : List Bool) (na : ℕ) (numbers : List ℕ) (clauses : List (List Lit)) → IsPlaced k needed (log_number na numbers) clauses → (so_far : List Lit) (resolutions : List Resolution) (clause : List Lit) → ((p : ℕ) (none : Resolution) → p < length resolutions → IsNeeded needed (get_or resolutions p none).reason) → ResolvesTo k so_far resolutions clause → Leads clauses so_far (map (log_pivot na numbers) resolutions) clause
+leads : (k : ClauseLists) (needed : List Bool) (na : ℕ) (numbers : List ℕ) (clauses : List (List Lit))
+    → IsPlaced k needed (log_number na numbers) clauses
+    → (so_far : List Lit) (resolutions : List Resolution) (clause : List Lit)
+    → ((p : ℕ) (none : Resolution) → p < length resolutions → IsNeeded needed (get_or resolutions p none).reason)
+    → ResolvesTo k so_far resolutions clause → Leads clauses so_far (map (log_pivot na numbers) resolutions) clause
 leads k needed na numbers clauses placed so_far [] clause need r = r
 leads k needed na numbers clauses placed so_far (resolution ∷ resolutions) clause need r =
     let at = placed resolution.reason r.0 (need 0 resolution (omega arith)) in (
@@ -34,18 +42,24 @@ leads k needed na numbers clauses placed so_far (resolution ∷ resolutions) cla
       ),
     )
 
-pub follows_from : (k : ClauseLists) (needed : List Bool) (na : ℕ) (numbers : List ℕ) (clauses : List (List Lit)) (first : ClauseRef) (resolutions : List Resolution) (chain : Chain) → IsPlaced k needed (log_number na numbers) clauses → AllNeeded needed first resolutions → IsDerivation k first resolutions chain.clause → chain.first ≡ log_number na numbers first → chain.rest ≡ map (log_pivot na numbers) resolutions → Follows clauses chain
+pub follows_from : (k : ClauseLists) (needed : List Bool) (na : ℕ) (numbers : List ℕ) (clauses : List (List Lit)) (first : ClauseRef)
+    (resolutions : List Resolution) (chain : Chain) → IsPlaced k needed (log_number na numbers) clauses → AllNeeded needed first resolutions
+    → IsDerivation k first resolutions chain.clause → chain.first ≡ log_number na numbers first → chain.rest ≡ map (log_pivot na numbers) resolutions
+    → Follows clauses chain
 follows_from k needed na numbers clauses first resolutions chain placed need d e f =
     let at = placed first d.named need.of_first in
     let l = leads k needed na numbers clauses placed (clause_of k first) resolutions chain.clause need.of_rest d.reached in
-    let l2 = subst (λ (c : List Lit). Leads clauses c (map (log_pivot na numbers) resolutions) chain.clause) (sym (ap (λ n. get_or clauses n []) e ∙ at.1)) l in
+    let l2 = subst (λ (c : List Lit). Leads clauses c (map (log_pivot na numbers) resolutions) chain.clause)
+    (sym (ap (λ n. get_or clauses n []) e ∙ at.1)) l in
     (subst (λ n. n < length clauses) (sym e) at.0, subst (λ (ps : List Pivot). Leads clauses (get_or clauses chain.first []) ps chain.clause) (sym f) l2)
 
 -- before the chain behind a log stand the clauses of the whole log
-before_push : (cnf : List (List Lit)) (log : List Chain) (chain : Chain) (k : ℕ) → k ≤ length log → clauses_before cnf (log ++ chain ∷ []) k ≡ clauses_before cnf log k
+before_push : (cnf : List (List Lit)) (log : List Chain) (chain : Chain) (k : ℕ) → k ≤ length log
+    → clauses_before cnf (log ++ chain ∷ []) k ≡ clauses_before cnf log k
 before_push cnf log chain k h = ap (λ (l : List Chain). cnf ++ map (λ c. c.clause) l) (take-append-le k log (chain ∷ []) h)
 
-before_all : (cnf : List (List Lit)) (log : List Chain) (chain : Chain) → clauses_before cnf (log ++ chain ∷ []) (length (log ++ chain ∷ [])) ≡ clauses_before cnf log (length log) ++ chain.clause ∷ []
+before_all : (cnf : List (List Lit)) (log : List Chain) (chain : Chain)
+    → clauses_before cnf (log ++ chain ∷ []) (length (log ++ chain ∷ [])) ≡ clauses_before cnf log (length log) ++ chain.clause ∷ []
 before_all cnf log chain =
     let name : Chain → List Lit = λ c. c.clause in
     ap (λ (l : List Chain). cnf ++ map name l) (take_all (length (log ++ chain ∷ [])) (log ++ chain ∷ []) (omega arith))
@@ -53,7 +67,8 @@ before_all cnf log chain =
     ∙ sym (append_assoc cnf (map name log) (chain.clause ∷ []))
     ∙ ap (λ (l : List Chain). (cnf ++ map name l) ++ chain.clause ∷ []) (sym (take_all (length log) log (omega arith)))
 
-length_before : (cnf : List (List Lit)) (log : List Chain) → length (clauses_before cnf log (length log)) ≡ length cnf + length log
+length_before : (cnf : List (List Lit)) (log : List Chain)
+    → length (clauses_before cnf log (length log)) ≡ length cnf + length log
 length_before cnf log =
     let name : Chain → List Lit = λ c. c.clause in
     length-append cnf (map name (take (length log) log))
@@ -80,7 +95,10 @@ follows_push cnf log chain old last k c at =
 pub none_follow : (cnf : List (List Lit)) → EachFollows cnf []
 none_follow cnf k c at = absurd (omega (arith, slice_get_within [] k c at))
 
-pub placed_by : (added learnt : List (List Lit)) (assumed units : List Lit) (needed : List Bool) (count : ℕ) (numbers : List ℕ) (log : List Chain) → (units ≡ assumed) ⊎ (units ≡ []) → count ≤ length learnt → IsNumbered added learnt assumed needed count numbers log → IsPlaced (clause_lists added (take count learnt) units) needed (log_number (length added) numbers) (clauses_before (clauses_with_units added assumed) log (length log))
+pub placed_by : (added learnt : List (List Lit)) (assumed units : List Lit) (needed : List Bool) (count : ℕ) (numbers : List ℕ) (log : List Chain)
+    → (units ≡ assumed) ⊎ (units ≡ []) → count ≤ length learnt → IsNumbered added learnt assumed needed count numbers log
+    → IsPlaced (clause_lists added (take count learnt) units) needed (log_number (length added) numbers)
+    (clauses_before (clauses_with_units added assumed) log (length log))
 placed_by added learnt assumed units needed count numbers log u short n (Added p) named need =
     let cnf = clauses_with_units added assumed in
     let len = length_before cnf log in
@@ -115,7 +133,11 @@ placed_by added learnt assumed units needed count numbers log u short n (Learnt 
     (omega (arith, len, at.0), at.1 ∙ sym (get_or-take count learnt p [] lt))
 
 -- a learnt clause more that is needed, with its chain
-pub IsNumbered-chain : (added learnt : List (List Lit)) (assumed : List Lit) (needed : List Bool) (count number : ℕ) (numbers : List ℕ) (log : List Chain) (chain : Chain) → IsNumbered added learnt assumed needed count numbers log → Follows (clauses_before (clauses_with_units added assumed) log (length log)) chain → chain.clause ≡ get_or learnt count [] → number ≡ length (clauses_with_units added assumed) + length log → IsNumbered added learnt assumed needed (count + 1) (numbers ++ number ∷ []) (log ++ chain ∷ [])
+pub IsNumbered-chain : (added learnt : List (List Lit)) (assumed : List Lit) (needed : List Bool) (count number : ℕ) (numbers : List ℕ)
+    (log : List Chain) (chain : Chain) → IsNumbered added learnt assumed needed count numbers log
+    → Follows (clauses_before (clauses_with_units added assumed) log (length log)) chain → chain.clause ≡ get_or learnt count []
+    → number ≡ length (clauses_with_units added assumed) + length log
+    → IsNumbered added learnt assumed needed (count + 1) (numbers ++ number ∷ []) (log ++ chain ∷ [])
 IsNumbered-chain added learnt assumed needed count number numbers log chain n f c e =
     let cnf = clauses_with_units added assumed in
     let all = before_all cnf log chain in
@@ -136,7 +158,8 @@ IsNumbered-chain added learnt assumed needed count number numbers log chain n f 
         | inr other ↦
             let lt : p < count = omega (arith, other) in
             let old = n.numbered p lt need in
-            let here : get_or (numbers ++ number ∷ []) p 0 ≡ get_or numbers p 0 = get_or_append_left numbers (number ∷ []) 0 p (omega (arith, lt, n.counted)) in (
+            let here : get_or (numbers ++ number ∷ []) p 0 ≡ get_or numbers p 0 = get_or_append_left numbers (number ∷ []) 0 p
+            (omega (arith, lt, n.counted)) in (
               omega (arith, here, old.0, grown),
               ap (λ m. get_or (clauses_before cnf (log ++ chain ∷ []) (length (log ++ chain ∷ []))) m []) here
                   ∙ ap (λ ls. get_or ls (get_or numbers p 0) []) all
@@ -147,7 +170,9 @@ IsNumbered-chain added learnt assumed needed count number numbers log chain n f 
     }
 
 -- a learnt clause more that isn't needed
-pub IsNumbered-skip : (added learnt : List (List Lit)) (assumed : List Lit) (needed : List Bool) (count number : ℕ) (numbers : List ℕ) (log : List Chain) → IsNumbered added learnt assumed needed count numbers log → get_or needed count true ≡ false → IsNumbered added learnt assumed needed (count + 1) (numbers ++ number ∷ []) log
+pub IsNumbered-skip : (added learnt : List (List Lit)) (assumed : List Lit) (needed : List Bool) (count number : ℕ) (numbers : List ℕ)
+    (log : List Chain) → IsNumbered added learnt assumed needed count numbers log → get_or needed count true ≡ false
+    → IsNumbered added learnt assumed needed (count + 1) (numbers ++ number ∷ []) log
 IsNumbered-skip added learnt assumed needed count number numbers log n skip =
     let cnf = clauses_with_units added assumed in
     record {
@@ -160,14 +185,16 @@ IsNumbered-skip added learnt assumed needed count number numbers log n skip =
         | inr other ↦
             let lt : p < count = omega (arith, other) in
             let old = n.numbered p lt need in
-            let here : get_or (numbers ++ number ∷ []) p 0 ≡ get_or numbers p 0 = get_or_append_left numbers (number ∷ []) 0 p (omega (arith, lt, n.counted)) in (
+            let here : get_or (numbers ++ number ∷ []) p 0 ≡ get_or numbers p 0 = get_or_append_left numbers (number ∷ []) 0 p
+            (omega (arith, lt, n.counted)) in (
               omega (arith, here, old.0),
               ap (λ m. get_or (clauses_before cnf log (length log)) m []) here ∙ old.1,
             )
       ];
     }
 
-pub IsNumbered-start : (added learnt : List (List Lit)) (assumed : List Lit) (needed : List Bool) → IsNumbered added learnt assumed needed 0 [] []
+pub IsNumbered-start : (added learnt : List (List Lit)) (assumed : List Lit) (needed : List Bool)
+    → IsNumbered added learnt assumed needed 0 [] []
 IsNumbered-start added learnt assumed needed = record {
   counted = refl;
   follows = none_follow (clauses_with_units added assumed);
@@ -175,43 +202,57 @@ IsNumbered-start added learnt assumed needed = record {
 }
 
 -- the log with the chain of the empty clause behind it
-pub derives_by : (added learnt : List (List Lit)) (assumed : List Lit) (needed : List Bool) (count : ℕ) (numbers : List ℕ) (log : List Chain) (chain : Chain) → IsNumbered added learnt assumed needed count numbers log → Follows (clauses_before (clauses_with_units added assumed) log (length log)) chain → chain.clause ≡ [] → Derives (clauses_with_units added assumed) (log ++ chain ∷ [])
+pub derives_by : (added learnt : List (List Lit)) (assumed : List Lit) (needed : List Bool) (count : ℕ) (numbers : List ℕ) (log : List Chain)
+    (chain : Chain) → IsNumbered added learnt assumed needed count numbers log
+    → Follows (clauses_before (clauses_with_units added assumed) log (length log)) chain → chain.clause ≡ []
+    → Derives (clauses_with_units added assumed) (log ++ chain ∷ [])
 derives_by added learnt assumed needed count numbers log chain n f e = record {
   each = follows_push (clauses_with_units added assumed) log chain n.follows f;
   ends = (log, chain, refl, e);
 }
 
 -- what a derivation names has a number
-reaches_named : (k : ClauseLists) (so_far : List Lit) (resolutions : List Resolution) (clause : List Lit) → ResolvesTo k so_far resolutions clause → (place : ℕ) (none : Resolution) → place < length resolutions → HasClause k (get_or resolutions place none).reason
+reaches_named : (k : ClauseLists) (so_far : List Lit) (resolutions : List Resolution) (clause : List Lit)
+    → ResolvesTo k so_far resolutions clause → (place : ℕ) (none : Resolution) → place < length resolutions
+    → HasClause k (get_or resolutions place none).reason
 reaches_named k so_far [] clause r place none h = absurd (omega arith)
 reaches_named k so_far (resolution ∷ resolutions) clause r zero none h = r.0
 reaches_named k so_far (resolution ∷ resolutions) clause r (suc place) none h = reaches_named k r.1.1 resolutions clause r.1.4 place none (omega arith)
 
-named_number : (added learnt : List (List Lit)) (units : List Lit) (numbers : List ℕ) (reason : ClauseRef) → length learnt ≤ length numbers → length added + length units < 2 ^ 64 → HasClause (clause_lists added learnt units) reason → HasNumber (length added) numbers reason
+named_number : (added learnt : List (List Lit)) (units : List Lit) (numbers : List ℕ) (reason : ClauseRef)
+    → length learnt ≤ length numbers → length added + length units < 2 ^ 64
+    → HasClause (clause_lists added learnt units) reason → HasNumber (length added) numbers reason
 named_number added learnt units numbers (Added p) h w n = tt
 named_number added learnt units numbers (Assumed p) h w n = omega (arith, n, length-map units unit_clause)
 named_number added learnt units numbers (Learnt p) h w n = omega (arith, n)
 
-pub derived_numbers : (added learnt : List (List Lit)) (units : List Lit) (numbers : List ℕ) (first : ClauseRef) (resolutions : List Resolution) (clause : List Lit) → length learnt ≤ length numbers → length added + length units < 2 ^ 64 → IsDerivation (clause_lists added learnt units) first resolutions clause → AllHaveNumbers (length added) numbers first resolutions
+pub derived_numbers : (added learnt : List (List Lit)) (units : List Lit) (numbers : List ℕ) (first : ClauseRef) (resolutions : List Resolution)
+    (clause : List Lit) → length learnt ≤ length numbers → length added + length units < 2 ^ 64
+    → IsDerivation (clause_lists added learnt units) first resolutions clause → AllHaveNumbers (length added) numbers first resolutions
 derived_numbers added learnt units numbers first resolutions clause h w d = record {
   of_first = named_number added learnt units numbers first h w d.named;
-  of_rest = λ place none lt. named_number added learnt units numbers (get_or resolutions place none).reason h w (reaches_named _ _ resolutions clause d.reached place none lt);
+  of_rest = λ place none lt. named_number added learnt units numbers (get_or resolutions place none).reason h w
+      (reaches_named _ _ resolutions clause d.reached place none lt);
 }
 
-named_below : (added learnt : List (List Lit)) (units : List Lit) (n : ℕ) (reason : ClauseRef) → length learnt ≤ n → HasClause (clause_lists added learnt units) reason → IsBelow n reason
+named_below : (added learnt : List (List Lit)) (units : List Lit) (n : ℕ) (reason : ClauseRef) → length learnt ≤ n
+    → HasClause (clause_lists added learnt units) reason → IsBelow n reason
 named_below added learnt units n (Added p) h w = tt
 named_below added learnt units n (Assumed p) h w = tt
 named_below added learnt units n (Learnt p) h w = omega (arith, w)
 
 -- a derivation names only clauses learnt before
-pub derived_below : (added learnt : List (List Lit)) (units : List Lit) (n : ℕ) (first : ClauseRef) (resolutions : List Resolution) (clause : List Lit) → length learnt ≤ n → IsDerivation (clause_lists added learnt units) first resolutions clause → AllBelow n first resolutions
+pub derived_below : (added learnt : List (List Lit)) (units : List Lit) (n : ℕ) (first : ClauseRef) (resolutions : List Resolution)
+    (clause : List Lit) → length learnt ≤ n → IsDerivation (clause_lists added learnt units) first resolutions clause → AllBelow n first resolutions
 derived_below added learnt units n first resolutions clause h d = record {
   of_first = named_below added learnt units n first h d.named;
-  of_rest = λ place none lt. named_below added learnt units n (get_or resolutions place none).reason h (reaches_named _ _ resolutions clause d.reached place none lt);
+  of_rest = λ place none lt. named_below added learnt units n (get_or resolutions place none).reason h
+      (reaches_named _ _ resolutions clause d.reached place none lt);
 }
 
 -- marks
-marked_more : (needed : List Bool) (reason : ClauseRef) (p : ℕ) → get_or needed p true ≡ true → get_or (marks_with needed reason) p true ≡ true
+marked_more : (needed : List Bool) (reason : ClauseRef) (p : ℕ) → get_or needed p true ≡ true
+    → get_or (marks_with needed reason) p true ≡ true
 marked_more needed (Added q) p e = e
 marked_more needed (Assumed q) p e = e
 marked_more needed (Learnt q) p e = elim (cases_eq p q) [
@@ -222,17 +263,20 @@ marked_more needed (Learnt q) p e = elim (cases_eq p q) [
   | inr other ↦ get_or-set_other needed q p true true other ∙ e
 ]
 
-marked_kept : (needed : List Bool) (reason : ClauseRef) (n p : ℕ) → IsBelow n reason → n ≤ p → get_or (marks_with needed reason) p true ≡ get_or needed p true
+marked_kept : (needed : List Bool) (reason : ClauseRef) (n p : ℕ) → IsBelow n reason → n ≤ p
+    → get_or (marks_with needed reason) p true ≡ get_or needed p true
 marked_kept needed (Added q) n p b h = refl
 marked_kept needed (Assumed q) n p b h = refl
 marked_kept needed (Learnt q) n p b h = let other : p ≢ q = omega (arith, b) in get_or-set_other needed q p true true other
 
-marked_itself : (needed : List Bool) (reason : ClauseRef) → IsBelow (length needed) reason → IsNeeded (marks_with needed reason) reason
+marked_itself : (needed : List Bool) (reason : ClauseRef) → IsBelow (length needed) reason
+    → IsNeeded (marks_with needed reason) reason
 marked_itself needed (Added q) b = tt
 marked_itself needed (Assumed q) b = tt
 marked_itself needed (Learnt q) b = get_or-set_same needed q true true b
 
-marked_other : (needed : List Bool) (reason other : ClauseRef) → IsNeeded needed other → IsNeeded (marks_with needed reason) other
+marked_other : (needed : List Bool) (reason other : ClauseRef) → IsNeeded needed other
+    → IsNeeded (marks_with needed reason) other
 marked_other needed reason (Added q) n = tt
 marked_other needed reason (Assumed q) n = tt
 marked_other needed reason (Learnt q) n = marked_more needed reason q n
@@ -250,7 +294,8 @@ pub record IsMarkedSoFar (old new : List Bool) (first : ClauseRef) (resolutions 
   pub kept : (n place : ℕ) → AllBelow n first resolutions → n ≤ place → get_or new place true ≡ get_or old place true
   pub len : length new ≡ length old
 
-pub marked_start : (old : List Bool) (first : ClauseRef) (resolutions : List Resolution) → IsBelow (length old) first → IsMarkedSoFar old (marks_with old first) first resolutions 0
+pub marked_start : (old : List Bool) (first : ClauseRef) (resolutions : List Resolution) → IsBelow (length old) first
+    → IsMarkedSoFar old (marks_with old first) first resolutions 0
 marked_start old first resolutions b = record {
   more = λ p e. marked_more old first p e;
   of_first = marked_itself old first b;
@@ -259,14 +304,17 @@ marked_start old first resolutions b = record {
   len = length_marked old first;
 }
 
-pub marked_next : (old new : List Bool) (first : ClauseRef) (resolutions : List Resolution) (i : ℕ) (resolution : Resolution) → i < length resolutions → resolution ≡ get_or resolutions i resolution → IsBelow (length old) resolution.reason → IsMarkedSoFar old new first resolutions i → IsMarkedSoFar old (marks_with new resolution.reason) first resolutions (i + 1)
+pub marked_next : (old new : List Bool) (first : ClauseRef) (resolutions : List Resolution) (i : ℕ) (resolution : Resolution) → i < length resolutions
+    → resolution ≡ get_or resolutions i resolution → IsBelow (length old) resolution.reason → IsMarkedSoFar old new first resolutions i
+    → IsMarkedSoFar old (marks_with new resolution.reason) first resolutions (i + 1)
 marked_next old new first resolutions i resolution h e b m = record {
   more = λ p x. marked_more new resolution.reason p (m.more p x);
   of_first = marked_other new resolution.reason first m.of_first;
   of_rest = λ p none lt. elim (cases_eq p i) [
     | inl at ↦
         let same : get_or resolutions p none ≡ resolution = ap (λ k. get_or resolutions k none) at ∙ sym (get_or_read resolutions i resolution h e none) in
-        subst (λ (l : Resolution). IsNeeded (marks_with new resolution.reason) l.reason) (sym same) (marked_itself new resolution.reason (subst (λ n. IsBelow n resolution.reason) (sym m.len) b))
+        subst (λ (l : Resolution). IsNeeded (marks_with new resolution.reason) l.reason) (sym same)
+        (marked_itself new resolution.reason (subst (λ n. IsBelow n resolution.reason) (sym m.len) b))
     | inr other ↦ marked_other new resolution.reason (get_or resolutions p none).reason (m.of_rest p none (omega (arith, other)))
   ];
   kept = λ n p below le.
@@ -275,27 +323,34 @@ marked_next old new first resolutions i resolution h e b m = record {
   len = length_marked new resolution.reason ∙ m.len;
 }
 
-pub marked_first : (old new : List Bool) (first : ClauseRef) (resolutions : List Resolution) → new ≡ marks_with old first → IsBelow (length old) first → IsMarkedSoFar old new first resolutions 0
+pub marked_first : (old new : List Bool) (first : ClauseRef) (resolutions : List Resolution)
+    → new ≡ marks_with old first → IsBelow (length old) first → IsMarkedSoFar old new first resolutions 0
 marked_first old new first resolutions e b = subst (λ l. IsMarkedSoFar old l first resolutions 0) (sym e) (marked_start old first resolutions b)
 
-pub marked_more_links : (old new grown : List Bool) (first : ClauseRef) (resolutions : List Resolution) (i : ℕ) (resolution : Resolution) → i < length resolutions → resolution ≡ get_or resolutions i resolution → grown ≡ marks_with new resolution.reason → AllBelow (length old) first resolutions → IsMarkedSoFar old new first resolutions i → IsMarkedSoFar old grown first resolutions (i + 1)
+pub marked_more_links : (old new grown : List Bool) (first : ClauseRef) (resolutions : List Resolution) (i : ℕ) (resolution : Resolution)
+    → i < length resolutions → resolution ≡ get_or resolutions i resolution → grown ≡ marks_with new resolution.reason
+    → AllBelow (length old) first resolutions → IsMarkedSoFar old new first resolutions i → IsMarkedSoFar old grown first resolutions (i + 1)
 marked_more_links old new grown first resolutions i resolution h e g b m =
     let below : IsBelow (length old) resolution.reason = subst (λ (l : Resolution). IsBelow (length old) l.reason) (sym e) (b.of_rest i resolution h) in
     subst (λ l. IsMarkedSoFar old l first resolutions (i + 1)) (sym g) (marked_next old new first resolutions i resolution h e below m)
 
-pub marked_done : (old new : List Bool) (first : ClauseRef) (resolutions : List Resolution) (i : ℕ) → length resolutions ≤ i → IsMarkedSoFar old new first resolutions i → MarksMore old new first resolutions
+pub marked_done : (old new : List Bool) (first : ClauseRef) (resolutions : List Resolution) (i : ℕ)
+    → length resolutions ≤ i → IsMarkedSoFar old new first resolutions i → MarksMore old new first resolutions
 marked_done old new first resolutions i h m = record {
   more = m.more;
   all = record { of_first = m.of_first; of_rest = λ p none lt. m.of_rest p none (omega (arith, lt)) };
   kept = m.kept;
 }
 
-needed_more : (old new : List Bool) (reason : ClauseRef) → ((p : ℕ) → get_or old p true ≡ true → get_or new p true ≡ true) → IsNeeded old reason → IsNeeded new reason
+needed_more : (old new : List Bool) (reason : ClauseRef)
+    → ((p : ℕ) → get_or old p true ≡ true → get_or new p true ≡ true) → IsNeeded old reason → IsNeeded new reason
 needed_more old new (Added q) more n = tt
 needed_more old new (Assumed q) more n = tt
 needed_more old new (Learnt q) more n = more q n
 
-pub all_needed_more : (old new : List Bool) (first : ClauseRef) (resolutions : List Resolution) → ((p : ℕ) → get_or old p true ≡ true → get_or new p true ≡ true) → AllNeeded old first resolutions → AllNeeded new first resolutions
+pub all_needed_more : (old new : List Bool) (first : ClauseRef) (resolutions : List Resolution)
+    → ((p : ℕ) → get_or old p true ≡ true → get_or new p true ≡ true) → AllNeeded old first resolutions
+    → AllNeeded new first resolutions
 all_needed_more old new first resolutions more n = record {
   of_first = needed_more old new first more n.of_first;
   of_rest = λ p none h. needed_more old new (get_or resolutions p none).reason more (n.of_rest p none h);
@@ -307,7 +362,9 @@ NeededFrom needed derivations at =
     (p : ℕ) (none : Derivation) → at ≤ p → p < length derivations → get_or needed p true ≡ true
     → AllNeeded needed (get_or derivations p none).first (get_or derivations p none).rest.items
 
-pub needed_step : (old new : List Bool) (derivations : List Derivation) (n at : ℕ) (d : Derivation) → n ≡ at + 1 → at < length derivations → d ≡ get_or derivations at d → AreBelow derivations → MarksMore old new d.first d.rest.items → NeededFrom old derivations n → NeededFrom new derivations at
+pub needed_step : (old new : List Bool) (derivations : List Derivation) (n at : ℕ) (d : Derivation) → n ≡ at + 1
+    → at < length derivations → d ≡ get_or derivations at d → AreBelow derivations
+    → MarksMore old new d.first d.rest.items → NeededFrom old derivations n → NeededFrom new derivations at
 needed_step old new derivations n at d e h is below m from p none le lt need =
     elim (cases_eq p at) [
       | inl here ↦
@@ -316,10 +373,12 @@ needed_step old new derivations n at d e h is below m from p none le lt need =
       | inr other ↦
           let b : AllBelow at d.first d.rest.items = subst (λ (x : Derivation). AllBelow at x.first x.rest.items) (sym is) (below at d h) in
           let was : get_or old p true ≡ true = sym (m.kept at p b le) ∙ need in
-          all_needed_more old new (get_or derivations p none).first (get_or derivations p none).rest.items m.more (from p none (omega (arith, other)) lt was)
+          all_needed_more old new (get_or derivations p none).first (get_or derivations p none).rest.items m.more
+          (from p none (omega (arith, other)) lt was)
     ]
 
-pub needed_skip : (needed : List Bool) (derivations : List Derivation) (n at : ℕ) → n ≡ at + 1 → get_or needed at true ≡ false → NeededFrom needed derivations n → NeededFrom needed derivations at
+pub needed_skip : (needed : List Bool) (derivations : List Derivation) (n at : ℕ) → n ≡ at + 1
+    → get_or needed at true ≡ false → NeededFrom needed derivations n → NeededFrom needed derivations at
 needed_skip needed derivations n at e skip from p none le lt need =
     elim (cases_eq p at) [
       | inl here ↦
@@ -328,12 +387,20 @@ needed_skip needed derivations n at e skip from p none le lt need =
       | inr other ↦ from p none (omega (arith, other)) lt need
     ]
 
-pub length_clauses : (added : List (List Lit)) (assumed : List Lit) → length (clauses_with_units added assumed) ≡ length added + length assumed
+pub length_clauses : (added : List (List Lit)) (assumed : List Lit)
+    → length (clauses_with_units added assumed) ≡ length added + length assumed
 length_clauses added assumed = length-append added (map unit_clause assumed) ∙ ap (λ n. length added + n) (length-map assumed unit_clause)
 
 -- one learnt clause more, with its chain
-pub chain_next : (added learnt : List (List Lit)) (assumed : List Lit) (needed : List Bool) (place number : ℕ) (numbers ns grown : List ℕ) (log longer : List Chain) (chain : Chain) (derivations : List Derivation) (d : Derivation) → AreDerivations added learnt derivations → AreNeeded needed derivations → place < length learnt → d ≡ get_or derivations place d → get_or needed place true ≡ true → chain.clause ≡ get_or learnt place [] → chain.first ≡ log_number (length added) ns d.first → chain.rest ≡ map (log_pivot (length added) ns) d.rest.items → ns ≡ numbers → number ≡ length added + length assumed + length log → grown ≡ numbers ++ number ∷ [] → longer ≡ log ++ chain ∷ [] → IsNumbered added learnt assumed needed place numbers log → IsNumbered added learnt assumed needed (place + 1) grown longer
-chain_next added learnt assumed needed place number numbers ns grown log longer chain derivations d derived needs h is need clause first rest ns_is number_is grown_is longer_is n =
+pub chain_next : (added learnt : List (List Lit)) (assumed : List Lit) (needed : List Bool) (place number : ℕ) (numbers ns grown : List ℕ)
+    (log longer : List Chain) (chain : Chain) (derivations : List Derivation) (d : Derivation) → AreDerivations added learnt derivations
+    → AreNeeded needed derivations → place < length learnt → d ≡ get_or derivations place d → get_or needed place true ≡ true
+    → chain.clause ≡ get_or learnt place [] → chain.first ≡ log_number (length added) ns d.first
+    → chain.rest ≡ map (log_pivot (length added) ns) d.rest.items → ns ≡ numbers → number ≡ length added + length assumed + length log
+    → grown ≡ numbers ++ number ∷ [] → longer ≡ log ++ chain ∷ [] → IsNumbered added learnt assumed needed place numbers log
+    → IsNumbered added learnt assumed needed (place + 1) grown longer
+chain_next added learnt assumed needed place number numbers ns grown log longer chain derivations d derived needs h is need clause first rest ns_is
+    number_is grown_is longer_is n =
     let k = clause_lists added (take place learnt) [] in
     let h2 : place < length derivations = omega (arith, derived.same) in
     let x = subst (λ (y : Derivation). IsDerivation k y.first y.rest.items (get_or learnt place [])) (sym is) (derived.each place d h) in
@@ -342,25 +409,33 @@ chain_next added learnt assumed needed place number numbers ns grown log longer 
     let f = subst (λ (l : List ℕ). chain.first ≡ log_number (length added) l d.first) ns_is first in
     let r = subst (λ (l : List ℕ). chain.rest ≡ map (log_pivot (length added) l) d.rest.items) ns_is rest in
     let placed = placed_by added learnt assumed [] needed place numbers log (inr refl) (omega arith) n in
-    let follows = follows_from k needed (length added) numbers (clauses_before (clauses_with_units added assumed) log (length log)) d.first d.rest.items chain placed a x2 f r in
+    let follows = follows_from k needed (length added) numbers
+    (clauses_before (clauses_with_units added assumed) log (length log)) d.first d.rest.items chain placed a x2 f r in
     subst (λ (g : List ℕ). IsNumbered added learnt assumed needed (place + 1) g longer) (sym grown_is)
     (subst (λ (l : List Chain). IsNumbered added learnt assumed needed (place + 1) (numbers ++ number ∷ []) l) (sym longer_is)
     (IsNumbered-chain added learnt assumed needed place number numbers log chain n follows clause (omega (arith, number_is, length_clauses added assumed))))
 
 -- one that isn't needed
-pub skip_next : (added learnt : List (List Lit)) (assumed : List Lit) (needed : List Bool) (place number : ℕ) (numbers grown : List ℕ) (log same : List Chain) → get_or needed place true ≡ false → grown ≡ numbers ++ number ∷ [] → same ≡ log → IsNumbered added learnt assumed needed place numbers log → IsNumbered added learnt assumed needed (place + 1) grown same
+pub skip_next : (added learnt : List (List Lit)) (assumed : List Lit) (needed : List Bool) (place number : ℕ) (numbers grown : List ℕ)
+    (log same : List Chain) → get_or needed place true ≡ false → grown ≡ numbers ++ number ∷ [] → same ≡ log
+    → IsNumbered added learnt assumed needed place numbers log → IsNumbered added learnt assumed needed (place + 1) grown same
 skip_next added learnt assumed needed place number numbers grown log same skip grown_is same_is n =
     subst (λ (g : List ℕ). IsNumbered added learnt assumed needed (place + 1) g same) (sym grown_is)
     (subst (λ (l : List Chain). IsNumbered added learnt assumed needed (place + 1) (numbers ++ number ∷ []) l) (sym same_is)
     (IsNumbered-skip added learnt assumed needed place number numbers log n skip))
 
 -- the whole log
-pub log_done : (added learnt : List (List Lit)) (assumed : List Lit) (needed : List Bool) (numbers ns : List ℕ) (log longer : List Chain) (chain : Chain) (first : ClauseRef) (resolutions : List Resolution) → IsNumbered added learnt assumed needed (length learnt) numbers log → AllNeeded needed first resolutions → IsDerivation (clause_lists added learnt assumed) first resolutions [] → chain.clause ≡ [] → chain.first ≡ log_number (length added) ns first → chain.rest ≡ map (log_pivot (length added) ns) resolutions → ns ≡ numbers → longer ≡ log ++ chain ∷ [] → Derives (clauses_with_units added assumed) longer
+pub log_done : (added learnt : List (List Lit)) (assumed : List Lit) (needed : List Bool) (numbers ns : List ℕ) (log longer : List Chain)
+    (chain : Chain) (first : ClauseRef) (resolutions : List Resolution) → IsNumbered added learnt assumed needed (length learnt) numbers log
+    → AllNeeded needed first resolutions → IsDerivation (clause_lists added learnt assumed) first resolutions [] → chain.clause ≡ []
+    → chain.first ≡ log_number (length added) ns first → chain.rest ≡ map (log_pivot (length added) ns) resolutions → ns ≡ numbers
+    → longer ≡ log ++ chain ∷ [] → Derives (clauses_with_units added assumed) longer
 log_done added learnt assumed needed numbers ns log longer chain first resolutions n a d clause first_is rest_is ns_is longer_is =
     let clauses = clauses_before (clauses_with_units added assumed) log (length log) in
     let all : take (length learnt) learnt ≡ learnt = take_all (length learnt) learnt (omega arith) in
     let placed = placed_by added learnt assumed assumed needed (length learnt) numbers log (inl refl) (omega arith) n in
-    let placed2 = subst (λ (ls : List (List Lit)). IsPlaced (clause_lists added ls assumed) needed (log_number (length added) numbers) clauses) all placed in
+    let placed2 = subst (λ (ls : List (List Lit)). IsPlaced (clause_lists added ls assumed) needed
+    (log_number (length added) numbers) clauses) all placed in
     let d2 = subst (λ (c : List Lit). IsDerivation (clause_lists added learnt assumed) first resolutions c) (sym clause) d in
     let f = subst (λ (l : List ℕ). chain.first ≡ log_number (length added) l first) ns_is first_is in
     let r = subst (λ (l : List ℕ). chain.rest ≡ map (log_pivot (length added) l) resolutions) ns_is rest_is in

@@ -20,7 +20,8 @@ weight-push (suc n) [] false h = omega (arith, weight-nil n)
 weight-push (suc n) (true ∷ bs) b h = omega (arith, weight-push n bs b (omega arith))
 weight-push (suc n) (false ∷ bs) b h = weight-push n bs b (omega arith)
 
-pub weight-return : (n : ℕ) (bs : List Bool) (keep : ℕ) → length bs ≤ n → keep < length bs → get_or bs keep false ≡ true → weight n (take keep bs ++ false ∷ []) < weight n bs
+pub weight-return : (n : ℕ) (bs : List Bool) (keep : ℕ) → length bs ≤ n → keep < length bs
+    → get_or bs keep false ≡ true → weight n (take keep bs ++ false ∷ []) < weight n bs
 weight-return zero [] keep h k t = absurd (omega arith)
 weight-return (suc n) [] keep h k t = absurd (omega arith)
 weight-return zero (b ∷ bs) keep h k t = absurd (omega arith)

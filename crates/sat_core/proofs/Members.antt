@@ -28,7 +28,8 @@ module _ (xs : List Lit) (i : ℕ) (x : Lit) (h : i < length xs) (e : x ≡ get_
   pub more_new : Contains (take (i + 1) xs) x
   more_new = subst (λ l. Contains l x) (sym (taken xs i x h e)) (Contains-push (take i xs) x)
 
-  pub without-keep : (lit : Lit) (out : List Lit) → (x ≡ lit → ⊥) → IsWithout (take i xs) lit out → IsWithout (take (i + 1) xs) lit (out ++ x ∷ [])
+  pub without-keep : (lit : Lit) (out : List Lit) → (x ≡ lit → ⊥) → IsWithout (take i xs) lit out
+      → IsWithout (take (i + 1) xs) lit (out ++ x ∷ [])
   without-keep lit out n w m = (
     λ c. elim (Contains-push_cases out x m c) [
       | inl old ↦ (more_old m ((w m).0 old).0, ((w m).0 old).1)
@@ -40,7 +41,8 @@ module _ (xs : List Lit) (i : ℕ) (x : Lit) (h : i < length xs) (e : x ≡ get_
     ],
   )
 
-  pub without-drop : (lit : Lit) (out : List Lit) → x ≡ lit → IsWithout (take i xs) lit out → IsWithout (take (i + 1) xs) lit out
+  pub without-drop : (lit : Lit) (out : List Lit) → x ≡ lit → IsWithout (take i xs) lit out
+      → IsWithout (take (i + 1) xs) lit out
   without-drop lit out s w m = (
     λ c. (more_old m ((w m).0 c).0, ((w m).0 c).1),
     λ c. elim (more_cases m c.0) [
@@ -49,7 +51,8 @@ module _ (xs : List Lit) (i : ℕ) (x : Lit) (h : i < length xs) (e : x ≡ get_
     ],
   )
 
-  pub resolvent-keep : (old : List Lit) (but : Lit) (all : List Lit) → (x ≡ but → ⊥) → IsJoined old (take i xs) but all → IsJoined old (take (i + 1) xs) but (all ++ x ∷ [])
+  pub resolvent-keep : (old : List Lit) (but : Lit) (all : List Lit) → (x ≡ but → ⊥)
+      → IsJoined old (take i xs) but all → IsJoined old (take (i + 1) xs) but (all ++ x ∷ [])
   resolvent-keep old but all n j m = (
     λ c. elim (Contains-push_cases all x m c) [
       | inl was ↦ elim ((j m).0 was) [ inl o ↦ inl o | inr t ↦ inr (more_old m t.0, t.1) ]
@@ -64,7 +67,8 @@ module _ (xs : List Lit) (i : ℕ) (x : Lit) (h : i < length xs) (e : x ≡ get_
     ],
   )
 
-  pub resolvent-there : (old : List Lit) (but : Lit) (all : List Lit) → (x ≡ but) ⊎ Contains all x → IsJoined old (take i xs) but all → IsJoined old (take (i + 1) xs) but all
+  pub resolvent-there : (old : List Lit) (but : Lit) (all : List Lit) → (x ≡ but) ⊎ Contains all x
+      → IsJoined old (take i xs) but all → IsJoined old (take (i + 1) xs) but all
   resolvent-there old but all d j m = (
     λ c. elim ((j m).0 c) [ inl o ↦ inl o | inr t ↦ inr (more_old m t.0, t.1) ],
     λ c. elim c [

@@ -9,7 +9,9 @@ use Rattle.sat_core.specs.declared.outcome.Outcome.{Outcome}
 use Rattle.sat_core.specs.declared.outcome.Outcome.TheVariants.{Sat, Unsat}
 use Rattle.sat_core.specs.Outcomes.{IfUnsat}
 
-pub refuted : (n : ℕ) (clauses : List (List Lit)) (r : Result Outcome NoMemory) → DerivationsRefute → IfOk r (λ outcome. IfUnsat outcome (Derives clauses)) → IfOk r (λ outcome. IfUnsat outcome (λ _. HasNoModel n clauses))
+pub refuted : (n : ℕ) (clauses : List (List Lit)) (r : Result Outcome NoMemory) → DerivationsRefute
+    → IfOk r (λ outcome. IfUnsat outcome (Derives clauses))
+    → IfOk r (λ outcome. IfUnsat outcome (λ _. HasNoModel n clauses))
 refuted n clauses (Ok (Sat model)) law h = tt
 refuted n clauses (Ok (Unsat log)) law h = law n clauses log h
 refuted n clauses (Err e) law h = tt

@@ -16,7 +16,8 @@ SoFar steps places done None = AllFalse steps (length steps) done
 SoFar steps places done (Some lit) = Forces steps (length steps) done lit × (get_or places (lit.var) None ≡ None)
 
 module _ (steps : List Step) (places : List (Option ℕ)) (xs : List Lit) (i : ℕ) (x : Lit) (h : i < length xs) (e : x ≡ get_or xs i x) where
-  pub so_far-false : (open' : Option Lit) → MadeTrue steps (length steps) (opposite x) → SoFar steps places (take i xs) open' → SoFar steps places (take (i + 1) xs) open'
+  pub so_far-false : (open' : Option Lit) → MadeTrue steps (length steps) (opposite x)
+      → SoFar steps places (take i xs) open' → SoFar steps places (take (i + 1) xs) open'
   so_far-false None t s = λ m c. elim (more_cases xs i x h e m c) [
     | inl old ↦ s m old
     | inr new ↦ subst (λ (l : Lit). MadeTrue steps (length steps) (opposite l)) new t
@@ -32,7 +33,8 @@ module _ (steps : List Step) (places : List (Option ℕ)) (xs : List Lit) (i : �
     s.1,
   )
 
-  pub so_far-open : get_or places (x.var) None ≡ None → SoFar steps places (take i xs) None → SoFar steps places (take (i + 1) xs) (Some x)
+  pub so_far-open : get_or places (x.var) None ≡ None → SoFar steps places (take i xs) None
+      → SoFar steps places (take (i + 1) xs) (Some x)
   so_far-open free s = (
     record {
       has = more_new xs i x h e;
@@ -41,7 +43,8 @@ module _ (steps : List Step) (places : List (Option ℕ)) (xs : List Lit) (i : �
     free,
   )
 
-  pub so_far-same : (lit : Lit) → x ≡ lit → SoFar steps places (take i xs) (Some lit) → SoFar steps places (take (i + 1) xs) (Some lit)
+  pub so_far-same : (lit : Lit) → x ≡ lit → SoFar steps places (take i xs) (Some lit)
+      → SoFar steps places (take (i + 1) xs) (Some lit)
   so_far-same lit same s = (
     record {
       has = more_old xs i x h e lit s.0.has;
@@ -58,25 +61,34 @@ at_index xs i x h e = (i, h, sym e)
 
 module _ (steps : List Step) (places : List (Option ℕ)) (trail : IsTrail steps places) where
   -- a clause with a true literal is not falsified
-  pub true_quiet : (xs : List Lit) (i : ℕ) (x : Lit) → i < length xs → x ≡ get_or xs i x → MadeTrue steps (length steps) x → AllFalse steps (length steps) xs → ⊥
+  pub true_quiet : (xs : List Lit) (i : ℕ) (x : Lit) → i < length xs → x ≡ get_or xs i x
+      → MadeTrue steps (length steps) x → AllFalse steps (length steps) xs → ⊥
   true_quiet xs i x h e t all = not_both steps places trail x t (all x (at_index xs i x h e))
 
   -- nor is one with a literal that has no value
-  pub free_quiet : (xs : List Lit) (i : ℕ) (x : Lit) → i < length xs → x ≡ get_or xs i x → get_or places (x.var) None ≡ None → AllFalse steps (length steps) xs → ⊥
+  pub free_quiet : (xs : List Lit) (i : ℕ) (x : Lit) → i < length xs → x ≡ get_or xs i x
+      → get_or places (x.var) None ≡ None → AllFalse steps (length steps) xs → ⊥
   free_quiet xs i x h e free all =
       free_not_true steps (opposite x) (free_from_none steps places trail (x.var) free) (all x (at_index xs i x h e))
 
 -- what the lists say together
-pub none_falsified : (added learnt : List (List Lit)) (assumed : List Lit) (steps : List Step) → ((p : ℕ) → p < length added → AllFalse steps (length steps) (get_or added p []) → ⊥) → ((p : ℕ) → p < length learnt → AllFalse steps (length steps) (get_or learnt p []) → ⊥) → NothingFalsified (clause_lists added learnt assumed) steps
+pub none_falsified : (added learnt : List (List Lit)) (assumed : List Lit) (steps : List Step)
+    → ((p : ℕ) → p < length added → AllFalse steps (length steps) (get_or added p []) → ⊥)
+    → ((p : ℕ) → p < length learnt → AllFalse steps (length steps) (get_or learnt p []) → ⊥)
+    → NothingFalsified (clause_lists added learnt assumed) steps
 none_falsified added learnt assumed steps a l (Added p) f = a p f.named f.all
 none_falsified added learnt assumed steps a l (Learnt p) f = l p f.named f.all
 none_falsified added learnt assumed steps a l (Assumed p) f = let o : true ≡ false = f.kept in absurd (cc)
 
 -- the literals of a clause that was added or learnt are within the variables
-pub kept_within : (n : ℕ) (added learnt : List (List Lit)) (assumed : List Lit) (reason : ClauseRef) → AllWithin n added → AllWithin n learnt → HasClause (clause_lists added learnt assumed) reason → opens_level (Some reason) ≡ false → (lit : Lit) → Contains (clause_of (clause_lists added learnt assumed) reason) lit → lit.var < n
+pub kept_within : (n : ℕ) (added learnt : List (List Lit)) (assumed : List Lit) (reason : ClauseRef)
+    → AllWithin n added → AllWithin n learnt → HasClause (clause_lists added learnt assumed) reason
+    → opens_level (Some reason) ≡ false → (lit : Lit)
+    → Contains (clause_of (clause_lists added learnt assumed) reason) lit → lit.var < n
 kept_within n added learnt assumed (Added p) a l named kept lit has = a p named lit has
 kept_within n added learnt assumed (Learnt p) a l named kept lit has = l p named lit has
 kept_within n added learnt assumed (Assumed p) a l named kept lit has = absurd (cc)
 
-pub forced_within : (n : ℕ) (added learnt : List (List Lit)) (assumed : List Lit) (steps : List Step) (places : List (Option ℕ)) (lit : Lit) (reason : ClauseRef) → AllWithin n added → AllWithin n learnt → IsForced (clause_lists added learnt assumed) steps places lit reason → lit.var < n
+pub forced_within : (n : ℕ) (added learnt : List (List Lit)) (assumed : List Lit) (steps : List Step) (places : List (Option ℕ)) (lit : Lit)
+    (reason : ClauseRef) → AllWithin n added → AllWithin n learnt → IsForced (clause_lists added learnt assumed) steps places lit reason → lit.var < n
 forced_within n added learnt assumed steps places lit reason a l f = kept_within n added learnt assumed reason a l f.named f.kept lit f.forces.has

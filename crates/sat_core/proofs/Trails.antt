@@ -1,6 +1,8 @@
 -- The trail: what a push and a backtrack do, and that no literal is both true and false.
-use Rattle.std.proofs.Common.{◌≡◌, ◌≢◌, ◌<◌, ◌≤◌, ℕ, zero, suc, Bool, true, false, not, List, [], ◌∷◌, ◌++◌, length, take, set, replicate, get_or, Option, Some, None, refl, sym, ap, ◌∙◌, inl, inr, arith, zero-add}
-use Rattle.std.proofs.lemmas.List.{get_or_append_left, get_or_push, length_push, get_or-take, get_or-set_same, get_or-set_other, get_or_past, length-set, get_or_read, length-replicate}
+use Rattle.std.proofs.Common.{◌≡◌, ◌≢◌, ◌<◌, ◌≤◌, ℕ, zero, suc, Bool, true, false, not, List, [], ◌∷◌, ◌++◌, length, take, set, replicate, get_or, Option}
+use Rattle.std.proofs.Common.{Some, None, refl, sym, ap, ◌∙◌, inl, inr, arith, zero-add}
+use Rattle.std.proofs.lemmas.List.{get_or_append_left, get_or_push, length_push, get_or-take, get_or-set_same, get_or-set_other, get_or_past, length-set}
+use Rattle.std.proofs.lemmas.List.{get_or_read, length-replicate}
 use Rattle.std.proofs.lemmas.Bool.{cases_lt, cases_eq}
 use mathlib.Core.Bool.{beq}
 use Rattle.cnf.specs.declared.lit.Lit.{Lit}
@@ -33,7 +35,8 @@ other_sign false true h = refl
 other_sign false false h = absurd (h refl)
 
 -- the steps before a push stand
-pub step_at-push : (steps : List Step) (step : Step) (p : ℕ) → p < length steps → step_at (steps ++ step ∷ []) p ≡ step_at steps p
+pub step_at-push : (steps : List Step) (step : Step) (p : ℕ) → p < length steps
+    → step_at (steps ++ step ∷ []) p ≡ step_at steps p
 step_at-push steps step p h = get_or_append_left steps (step ∷ []) no_step p h
 
 pub step_at-last : (steps : List Step) (step : Step) → step_at (steps ++ step ∷ []) (length steps) ≡ step
@@ -42,16 +45,19 @@ step_at-last steps step = get_or_push steps step no_step (length steps) refl
 pub step_at-take : (steps : List Step) (n p : ℕ) → p < n → step_at (take n steps) p ≡ step_at steps p
 step_at-take steps n p h = get_or-take n steps p no_step h
 
-pub MadeTrue-push : (steps : List Step) (step : Step) (n : ℕ) (lit : Lit) → n ≤ length steps → MadeTrue steps n lit → MadeTrue (steps ++ step ∷ []) n lit
+pub MadeTrue-push : (steps : List Step) (step : Step) (n : ℕ) (lit : Lit) → n ≤ length steps → MadeTrue steps n lit
+    → MadeTrue (steps ++ step ∷ []) n lit
 MadeTrue-push steps step n lit h m = (m.0, m.1, ap (λ (s : Step). s.lit) (step_at-push steps step m.0 (omega (arith, m.1))) ∙ m.2)
 
-pub MadeTrue-last : (steps : List Step) (step : Step) → MadeTrue (steps ++ step ∷ []) (length (steps ++ step ∷ [])) step.lit
+pub MadeTrue-last : (steps : List Step) (step : Step)
+    → MadeTrue (steps ++ step ∷ []) (length (steps ++ step ∷ [])) step.lit
 MadeTrue-last steps step = (length steps, omega (arith, length_push steps step), ap (λ (s : Step). s.lit) (step_at-last steps step))
 
 pub MadeTrue-later : (steps : List Step) (n m : ℕ) (lit : Lit) → n ≤ m → MadeTrue steps n lit → MadeTrue steps m lit
 MadeTrue-later steps n m lit h t = (t.0, omega (arith, t.1), t.2)
 
-pub MadeTrue-take : (steps : List Step) (keep n : ℕ) (lit : Lit) → n ≤ keep → MadeTrue steps n lit → MadeTrue (take keep steps) n lit
+pub MadeTrue-take : (steps : List Step) (keep n : ℕ) (lit : Lit) → n ≤ keep → MadeTrue steps n lit
+    → MadeTrue (take keep steps) n lit
 MadeTrue-take steps keep n lit h t = (t.0, t.1, ap (λ (s : Step). s.lit) (step_at-take steps keep t.0 (omega (arith, t.1))) ∙ t.2)
 
 some_same : (a b : ℕ) → Some a ≡ Some b → a ≡ b
@@ -94,14 +100,16 @@ pub free_not_true : (steps : List Step) (lit : Lit) → IsUnassigned steps lit.v
 free_not_true steps lit free t = free t.0 t.1 (ap (λ (l : Lit). l.var) t.2)
 
 -- counts
-pub unassigned_count-fill : (places : List (Option ℕ)) (v p : ℕ) → v < length places → get_or places v None ≡ None → suc (unassigned_count (set places v (Some p))) ≡ unassigned_count places
+pub unassigned_count-fill : (places : List (Option ℕ)) (v p : ℕ) → v < length places → get_or places v None ≡ None
+    → suc (unassigned_count (set places v (Some p))) ≡ unassigned_count places
 unassigned_count-fill [] v p h e = absurd (omega arith)
 unassigned_count-fill (None ∷ places) zero p h e = refl
 unassigned_count-fill (Some q ∷ places) zero p h e = absurd (cc)
 unassigned_count-fill (None ∷ places) (suc v) p h e = ap suc (unassigned_count-fill places v p (omega arith) e)
 unassigned_count-fill (Some q ∷ places) (suc v) p h e = unassigned_count-fill places v p (omega arith) e
 
-pub unassigned_count-clear : (places : List (Option ℕ)) (v p : ℕ) → v < length places → get_or places v None ≡ Some p → unassigned_count (set places v None) ≡ suc (unassigned_count places)
+pub unassigned_count-clear : (places : List (Option ℕ)) (v p : ℕ) → v < length places → get_or places v None ≡ Some p
+    → unassigned_count (set places v None) ≡ suc (unassigned_count places)
 unassigned_count-clear [] v p h e = absurd (omega arith)
 unassigned_count-clear (None ∷ places) zero p h e = absurd (cc)
 unassigned_count-clear (Some q ∷ places) zero p h e = refl
@@ -109,7 +117,9 @@ unassigned_count-clear (None ∷ places) (suc v) p h e = ap suc (unassigned_coun
 unassigned_count-clear (Some q ∷ places) (suc v) p h e = unassigned_count-clear places v p (omega arith) e
 
 -- a push at a free variable keeps the places right
-pub IsTrail-push : (steps : List Step) (places : List (Option ℕ)) (step : Step) → IsTrail steps places → step.lit.var < length places → get_or places (step.lit.var) None ≡ None → IsTrail (steps ++ step ∷ []) (set places (step.lit.var) (Some (length steps)))
+pub IsTrail-push : (steps : List Step) (places : List (Option ℕ)) (step : Step) → IsTrail steps places
+    → step.lit.var < length places → get_or places (step.lit.var) None ≡ None
+    → IsTrail (steps ++ step ∷ []) (set places (step.lit.var) (Some (length steps)))
 IsTrail-push steps places step trail within none =
     let v = step.lit.var in
     let n = length steps in
@@ -127,9 +137,11 @@ IsTrail-push steps places step trail within none =
       ];
       placed = λ place h. elim (cases_lt place n) [
         | inl before ↦ (
-            let same : (lit_at (steps ++ step ∷ []) place).var ≡ (lit_at steps place).var = ap (λ (s : Step). s.lit.var) (step_at-push steps step place before) in
+            let same : (lit_at (steps ++ step ∷ []) place).var ≡ (lit_at steps place).var = ap (λ (s : Step). s.lit.var)
+            (step_at-push steps step place before) in
             let here = trail.placed place before in
-            let other : (lit_at steps place).var ≢ v = λ e. let clash : None ≡ Some place = sym none ∙ ap (λ w. get_or places w None) (sym e) ∙ here in cc in
+            let other : (lit_at steps place).var ≢ v = λ e. let clash : None ≡ Some place = sym none ∙ ap (λ w. get_or places w None) (sym e)
+            ∙ here in cc in
             ap (λ w. get_or (set places v (Some n)) w None) same ∙ get_or-set_other places v _ (Some n) None other ∙ here)
         | inr past ↦ (
             let at : place ≡ n = omega arith in
@@ -142,7 +154,8 @@ IsTrail-push steps places step trail within none =
     }
 
 -- taking back the last step keeps them right
-pub IsTrail-pop : (steps : List Step) (places : List (Option ℕ)) (step : Step) → IsTrail (steps ++ step ∷ []) places → IsTrail steps (set places (step.lit.var) None)
+pub IsTrail-pop : (steps : List Step) (places : List (Option ℕ)) (step : Step) → IsTrail (steps ++ step ∷ []) places
+    → IsTrail steps (set places (step.lit.var) None)
 IsTrail-pop steps places step trail =
     let v = step.lit.var in
     let n = length steps in
@@ -165,20 +178,26 @@ IsTrail-pop steps places step trail =
       ];
       placed = λ place h.
           let same : (lit_at (steps ++ step ∷ []) place).var ≡ (lit_at steps place).var = ap (λ (s : Step). s.lit.var) (step_at-push steps step place h) in
-          let old : get_or places ((lit_at steps place).var) None ≡ Some place = ap (λ w. get_or places w None) (sym same) ∙ trail.placed place (omega arith) in
-          let other : (lit_at steps place).var ≢ v = λ e. let clash : Some n ≡ Some place = sym here ∙ ap (λ w. get_or places w None) (sym e) ∙ old in let at : n ≡ place = some_same n place clash in omega arith in
+          let old : get_or places ((lit_at steps place).var) None ≡ Some place = ap (λ w. get_or places w None) (sym same) ∙ trail.placed place
+          (omega arith) in
+          let other : (lit_at steps place).var ≢ v = λ e. let clash : Some n ≡ Some place = sym here ∙ ap (λ w. get_or places w None) (sym e)
+          ∙ old in let at : n ≡ place = some_same n place clash in omega arith in
           get_or-set_other places v _ None None other ∙ old;
       counted = omega (arith, grown, trail.counted, unassigned_count-clear places v n within here, length-set places v None);
     }
 
 -- what a step's sign says of a literal of its variable
-value_sign : (steps : List Step) (places : List (Option ℕ)) (lit : Lit) (p : ℕ) (a b : Bool) → p < length steps → (lit_at steps p).var ≡ lit.var → (lit_at steps p).positive ≡ a → lit.positive ≡ b → ValueIs steps places lit (Some (beq a b))
+value_sign : (steps : List Step) (places : List (Option ℕ)) (lit : Lit) (p : ℕ) (a b : Bool) → p < length steps
+    → (lit_at steps p).var ≡ lit.var → (lit_at steps p).positive ≡ a → lit.positive ≡ b
+    → ValueIs steps places lit (Some (beq a b))
 value_sign steps places lit p true true h v x y = (p, h, same_lit _ _ v (x ∙ sym y))
 value_sign steps places lit p true false h v x y = (p, h, same_lit _ _ v (x ∙ sym (ap not y)))
 value_sign steps places lit p false true h v x y = (p, h, same_lit _ _ v (x ∙ sym (ap not y)))
 value_sign steps places lit p false false h v x y = (p, h, same_lit _ _ v (x ∙ sym y))
 
-pub value_at : (steps : List Step) (places : List (Option ℕ)) (lit : Lit) (p : ℕ) (s : Step) → IsTrail steps places → get_or places (lit.var) None ≡ Some p → s ≡ get_or steps p s → ValueIs steps places lit (Some (beq s.lit.positive lit.positive))
+pub value_at : (steps : List Step) (places : List (Option ℕ)) (lit : Lit) (p : ℕ) (s : Step) → IsTrail steps places
+    → get_or places (lit.var) None ≡ Some p → s ≡ get_or steps p s
+    → ValueIs steps places lit (Some (beq s.lit.positive lit.positive))
 value_at steps places lit p s trail at read =
     let on = trail.stands (lit.var) p at in
     let same : s ≡ step_at steps p = get_or_read steps p s on.0 read no_step in
@@ -201,12 +220,16 @@ IsTrail-empty n = record {
 }
 
 -- the sign of the step at a variable's place is the sign of each of its literals that was made true
-pub sign_at : (steps : List Step) (places : List (Option ℕ)) (var p : ℕ) (s : Step) → IsTrail steps places → get_or places var None ≡ Some p → s ≡ get_or steps p s → (lit : Lit) → MadeTrue steps (length steps) lit → lit.var ≡ var → s.lit.positive ≡ lit.positive
+pub sign_at : (steps : List Step) (places : List (Option ℕ)) (var p : ℕ) (s : Step) → IsTrail steps places
+    → get_or places var None ≡ Some p → s ≡ get_or steps p s → (lit : Lit) → MadeTrue steps (length steps) lit
+    → lit.var ≡ var → s.lit.positive ≡ lit.positive
 sign_at steps places var p s trail at read lit t e =
     let on = trail.stands var p at in
     let same : s ≡ step_at steps p = get_or_read steps p s on.0 read no_step in
     let place : p ≡ t.0 = one_place steps places trail p t.0 on.0 t.1 (on.1 ∙ sym e ∙ ap (λ (l : Lit). l.var) (sym t.2)) in
     ap (λ (x : Step). x.lit.positive) same ∙ ap (λ q. (lit_at steps q).positive) place ∙ ap (λ (l : Lit). l.positive) t.2
 
-pub no_sign : (steps : List Step) (places : List (Option ℕ)) (var : ℕ) (b : Bool) → IsTrail steps places → get_or places var None ≡ None → (lit : Lit) → MadeTrue steps (length steps) lit → lit.var ≡ var → b ≡ lit.positive
+pub no_sign : (steps : List Step) (places : List (Option ℕ)) (var : ℕ) (b : Bool) → IsTrail steps places
+    → get_or places var None ≡ None → (lit : Lit) → MadeTrue steps (length steps) lit → lit.var ≡ var
+    → b ≡ lit.positive
 no_sign steps places var b trail none lit t e = absurd (free_from_none steps places trail var none t.0 t.1 (ap (λ (l : Lit). l.var) t.2 ∙ e))

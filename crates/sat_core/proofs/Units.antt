@@ -15,10 +15,12 @@ use Rattle.sat_core.proofs.Members.{no_lits, any_lit}
 use Rattle.sat_core.proofs.Searching.{in_unit}
 use Rattle.sat_core.proofs.Logs.{log_done, none_follow}
 
-unit_is : (added : List (List Lit)) (assumed : List Lit) (place : ℕ) (lit : Lit) → StandsAt assumed place lit → clause_of (clause_lists added [] assumed) (Assumed place) ≡ unit_clause lit
+unit_is : (added : List (List Lit)) (assumed : List Lit) (place : ℕ) (lit : Lit) → StandsAt assumed place lit
+    → clause_of (clause_lists added [] assumed) (Assumed place) ≡ unit_clause lit
 unit_is added assumed place lit s = get_or-map unit_clause assumed place lit [] s.0 ∙ ap unit_clause s.1
 
-unit_named : (added : List (List Lit)) (assumed : List Lit) (place : ℕ) (lit : Lit) → StandsAt assumed place lit → HasClause (clause_lists added [] assumed) (Assumed place)
+unit_named : (added : List (List Lit)) (assumed : List Lit) (place : ℕ) (lit : Lit) → StandsAt assumed place lit
+    → HasClause (clause_lists added [] assumed) (Assumed place)
 unit_named added assumed place lit s = omega (arith, s.0, length-map assumed unit_clause)
 
 units_resolve : (lit : Lit) → Resolves (unit_clause lit) (unit_clause (opposite lit)) lit []
@@ -35,12 +37,15 @@ units_resolve lit = record {
       );
 }
 
-units_derived : (added : List (List Lit)) (assumed : List Lit) (place other : ℕ) (lit : Lit) → StandsAt assumed place lit → StandsAt assumed other (opposite lit) → IsDerivation (clause_lists added [] assumed) (Assumed place) (record { var = lit.var; reason = Assumed other } ∷ []) []
+units_derived : (added : List (List Lit)) (assumed : List Lit) (place other : ℕ) (lit : Lit)
+    → StandsAt assumed place lit → StandsAt assumed other (opposite lit)
+    → IsDerivation (clause_lists added [] assumed) (Assumed place) (record { var = lit.var; reason = Assumed other } ∷ []) []
 units_derived added assumed place other lit here there =
     let k = clause_lists added [] assumed in
     let resolution : Resolution = record { var = lit.var; reason = Assumed other } in
     let r = subst (λ (c : List Lit). Resolves (unit_clause lit) c lit []) (sym (unit_is added assumed other (opposite lit) there)) (units_resolve lit) in
-    let reached : ResolvesTo k (unit_clause lit) (resolution ∷ []) [] = (unit_named added assumed other (opposite lit) there, (lit, [], refl, r, λ m. (λ c. c, λ c. c))) in
+    let reached : ResolvesTo k (unit_clause lit) (resolution ∷ []) [] =
+    (unit_named added assumed other (opposite lit) there, (lit, [], refl, r, λ m. (λ c. c, λ c. c))) in
     record {
       named = unit_named added assumed place lit here;
       reached = subst (λ (c : List Lit). ResolvesTo k c (resolution ∷ []) []) (sym (unit_is added assumed place lit here)) reached;
@@ -53,7 +58,8 @@ none_numbered added assumed = record {
   numbered = λ place h need. absurd (omega arith);
 }
 
-one_needed : (var other p : ℕ) (none : Resolution) → p < 1 → IsNeeded [] (get_or (record { var = var; reason = Assumed other } ∷ []) p none).reason
+one_needed : (var other p : ℕ) (none : Resolution) → p < 1
+    → IsNeeded [] (get_or (record { var = var; reason = Assumed other } ∷ []) p none).reason
 one_needed var other zero none h = tt
 one_needed var other (suc p) none h = absurd (omega arith)
 
@@ -63,15 +69,22 @@ none_needed var place other = record {
   of_rest = λ p none h. one_needed var other p none h;
 }
 
-pub units_done : (added : List (List Lit)) (assumed : List Lit) (place other : ℕ) (old items : List Resolution) (chain : Chain) (log longer : List Chain) → AreOpposite assumed place other → old ≡ [] → items ≡ old ++ record { var = (get_or assumed place any_lit).var; reason = Assumed other } ∷ [] → chain.clause ≡ [] → chain.first ≡ log_number (length added) [] (Assumed place) → chain.rest ≡ map (log_pivot (length added) []) items → log ≡ [] → longer ≡ log ++ chain ∷ [] → Derives (clauses_with_units added assumed) longer
+pub units_done : (added : List (List Lit)) (assumed : List Lit) (place other : ℕ) (old items : List Resolution) (chain : Chain)
+    (log longer : List Chain) → AreOpposite assumed place other → old ≡ []
+    → items ≡ old ++ record { var = (get_or assumed place any_lit).var; reason = Assumed other } ∷ [] → chain.clause ≡ []
+    → chain.first ≡ log_number (length added) [] (Assumed place) → chain.rest ≡ map (log_pivot (length added) []) items → log ≡ []
+    → longer ≡ log ++ chain ∷ [] → Derives (clauses_with_units added assumed) longer
 units_done added assumed place other old items chain log longer o old_is items_are clause first rest log_is longer_is =
     let lit = o.0 in
     let here = o.1 in
     let there = o.2 in
     let resolutions : List Resolution = record { var = lit.var; reason = Assumed other } ∷ [] in
     let same : get_or assumed place any_lit ≡ lit = get_or_default assumed place any_lit lit here.0 ∙ here.1 in
-    let items_are1 : items ≡ record { var = (get_or assumed place any_lit).var; reason = Assumed other } ∷ [] = items_are ∙ ap (λ (ls : List Resolution). ls ++ record { var = (get_or assumed place any_lit).var; reason = Assumed other } ∷ []) old_is in
+    let items_are1 : items ≡ record { var = (get_or assumed place any_lit).var; reason = Assumed other } ∷ [] = items_are ∙ ap
+    (λ (ls : List Resolution). ls ++ record { var = (get_or assumed place any_lit).var; reason = Assumed other } ∷ []) old_is in
     let items_are2 : items ≡ resolutions = items_are1 ∙ ap (λ (l : Lit). record { var = l.var; reason = Assumed other } ∷ []) same in
-    let rest2 : chain.rest ≡ map (log_pivot (length added) []) resolutions = rest ∙ ap (λ (ls : List Resolution). map (log_pivot (length added) []) ls) items_are2 in
+    let rest2 : chain.rest ≡ map (log_pivot (length added) []) resolutions = rest ∙ ap
+    (λ (ls : List Resolution). map (log_pivot (length added) []) ls) items_are2 in
     let longer_is2 : longer ≡ [] ++ chain ∷ [] = longer_is ∙ ap (λ (ls : List Chain). ls ++ chain ∷ []) log_is in
-    log_done added [] assumed [] [] [] [] longer chain (Assumed place) resolutions (none_numbered added assumed) (none_needed lit.var place other) (units_derived added assumed place other lit here there) clause first rest2 refl longer_is2
+    log_done added [] assumed [] [] [] [] longer chain (Assumed place) resolutions (none_numbered added assumed) (none_needed lit.var place other)
+    (units_derived added assumed place other lit here there) clause first rest2 refl longer_is2

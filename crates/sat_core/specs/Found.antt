@@ -15,7 +15,8 @@ use Rattle.sat_core.specs.Search.{ClauseLists, HasClause, clause_of, opens_level
 -- isn't false
 abbrev pub IsStatusOf : List Step → List (Option ℕ) → List Lit → Status → Type 0
 IsStatusOf steps places clause Falsified = AllFalse steps (length steps) clause
-IsStatusOf steps places clause (Forcing lit) = Forces steps (length steps) clause lit × (slice_index_or places (lit.var) None ≡ None)
+IsStatusOf steps places clause (Forcing lit) = Forces steps (length steps) clause lit ×
+    (slice_index_or places (lit.var) None ≡ None)
 IsStatusOf steps places clause Quiet = AllFalse steps (length steps) clause → ⊥
 
 -- what the clauses of a list say: one of them is falsified, one forces a literal, or none is falsified
@@ -40,7 +41,8 @@ abbrev pub NothingFalsified : ClauseLists → List Step → Type 0
 NothingFalsified k steps = (reason : ClauseRef) → IsFalsified k steps reason → ⊥
 
 -- a clause that was added or learnt forces a literal without a value
-pub record IsForced (k : ClauseLists) (steps : List Step) (places : List (Option ℕ)) (lit : Lit) (reason : ClauseRef) : Type 0 where
+pub record IsForced (k : ClauseLists) (steps : List Step) (places : List (Option ℕ)) (lit : Lit)
+    (reason : ClauseRef) : Type 0 where
   pub named : HasClause k reason
   pub kept : opens_level (Some reason) ≡ false
   pub forces : Forces steps (length steps) (clause_of k reason) lit

@@ -10,11 +10,13 @@ use Rattle.sat_core.specs.declared.clause_ref.ClauseRef.{ClauseRef}
 use Rattle.sat_core.specs.declared.trail.Step.{Step}
 use Rattle.sat_core.specs.declared.analyse.Backjump.{Backjump}
 use Rattle.sat_core.specs.declared.analyse.LearntClause.{LearntClause}
-use Rattle.sat_core.specs.Search.{ClauseLists, HasClause, clause_of, IsDerivation, MadeTrue, AllFalse, Forces, lit_at, step_at, opens_level}
+use Rattle.sat_core.specs.Search.{ClauseLists, HasClause, clause_of, IsDerivation, MadeTrue, AllFalse, Forces}
+use Rattle.sat_core.specs.Search.{lit_at, step_at, opens_level}
 
 -- each literal of the clause but one was made false before the place
 abbrev pub OthersFalse : List Step → ℕ → List Lit → Lit → Type 0
-OthersFalse steps place clause but = (lit : Lit) → Contains clause lit → (lit ≡ but) ⊎ MadeTrue steps place (opposite lit)
+OthersFalse steps place clause but = (lit : Lit) → Contains clause lit
+    → (lit ≡ but) ⊎ MadeTrue steps place (opposite lit)
 
 -- a reason, where there is one, names the same clause in both
 abbrev pub SameReference : ClauseLists → ClauseLists → Option ClauseRef → Type 0
@@ -35,6 +37,7 @@ AssertsOrEmpty steps clause None = clause ≡ []
 AssertsOrEmpty steps clause (Some backjump) = Asserts steps clause backjump.lit backjump.keep
 
 pub record IsLearntFrom (k : ClauseLists) (steps : List Step) (learnt_clause : LearntClause) : Type 0 where
-  pub derived : IsDerivation k learnt_clause.derivation.first learnt_clause.derivation.rest.items learnt_clause.lits.items
+  pub derived : IsDerivation k learnt_clause.derivation.first learnt_clause.derivation.rest.items
+      learnt_clause.lits.items
   pub all : AllFalse steps (length steps) learnt_clause.lits.items
   pub turns : AssertsOrEmpty steps learnt_clause.lits.items learnt_clause.backjump

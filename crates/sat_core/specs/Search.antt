@@ -4,7 +4,8 @@
 -- those of J. P. Marques-Silva and K. A. Sakallah, GRASP: a search algorithm for propositional
 -- satisfiability, IEEE Transactions on Computers 48 (1999).
 
-use Rattle.std.specs.Prelude.{◌≡◌, ◌≢◌, ◌<◌, ◌+◌, ◌⊎◌, ◌↔◌, ℕ, Bool, true, false, List, [], ◌∷◌, length, map, Contains, slice_index_or, Option, Some, None, zero, suc}
+use Rattle.std.specs.Prelude.{◌≡◌, ◌≢◌, ◌<◌, ◌+◌, ◌⊎◌, ◌↔◌, ℕ, Bool, true, false, List, [], ◌∷◌, length, map}
+use Rattle.std.specs.Prelude.{Contains, slice_index_or, Option, Some, None, zero, suc}
 use Rattle.cnf.specs.declared.lit.Lit.{Lit}
 use Rattle.cnf.specs.Clauses.{opposite}
 use Rattle.clause_log.specs.Derivations.{SameLits, Resolves}
@@ -60,7 +61,8 @@ ResolvesTo k so_far (resolution ∷ resolutions) clause =
     × ResolvesTo k after resolutions clause)
 
 -- a clause is derived: from a first clause by resolutions
-pub record IsDerivation (k : ClauseLists) (first : ClauseRef) (resolutions : List Resolution) (clause : List Lit) : Type 0 where
+pub record IsDerivation (k : ClauseLists) (first : ClauseRef) (resolutions : List Resolution)
+    (clause : List Lit) : Type 0 where
   pub named : HasClause k first
   pub reached : ResolvesTo k (clause_of k first) resolutions clause
 
@@ -97,7 +99,8 @@ pub record Forces (steps : List Step) (place : ℕ) (clause : List Lit) (lit : L
 -- each assumption was made true before the place
 abbrev pub AssumptionsTrue : ClauseLists → List Step → ℕ → Type 0
 AssumptionsTrue k steps place =
-    (n : ℕ) → n < length k.units → (lit : Lit) → slice_index_or k.units n [] ≡ unit_clause lit → MadeTrue steps place lit
+    (n : ℕ) → n < length k.units → (lit : Lit) → slice_index_or k.units n [] ≡ unit_clause lit
+    → MadeTrue steps place lit
 
 -- why the literal at a place is true: a clause forces it, or it was decided where each assumption was
 -- true
@@ -117,7 +120,8 @@ unassigned_count (Some place ∷ places) = unassigned_count places
 
 -- the places are those of the variables of the steps: no variable stands at two steps
 pub record IsTrail (steps : List Step) (places : List (Option ℕ)) : Type 0 where
-  pub stands : (var place : ℕ) → slice_index_or places var None ≡ Some place → (place < length steps) × ((lit_at steps place).var ≡ var)
+  pub stands : (var place : ℕ) → slice_index_or places var None ≡ Some place
+      → (place < length steps) × ((lit_at steps place).var ≡ var)
   pub placed : (place : ℕ) → place < length steps → slice_index_or places ((lit_at steps place).var) None ≡ Some place
   pub counted : length steps + unassigned_count places ≡ length places
 
@@ -155,7 +159,8 @@ trail_weight steps places = weight (length places) (level_marks steps)
 
 -- every literal of every clause of the list is of one of the first n variables
 abbrev pub AllWithin : ℕ → List (List Lit) → Type 0
-AllWithin n clauses = (place : ℕ) → place < length clauses → (lit : Lit) → Contains (slice_index_or clauses place []) lit → lit.var < n
+AllWithin n clauses = (place : ℕ) → place < length clauses → (lit : Lit)
+    → Contains (slice_index_or clauses place []) lit → lit.var < n
 
 -- the literals are those of the first list without one
 abbrev pub IsWithout : List Lit → Lit → List Lit → Type 0

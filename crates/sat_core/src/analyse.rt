@@ -3,7 +3,8 @@
 
 ghost use Rattle.std.specs.Prelude.{◌≡◌, ◌<◌, ◌≤◌, ◌+◌, ℕ, true, false, [], length, IfOk, IfSome, OnOk, Contains, None};
 ghost use Rattle.cnf.specs.Clauses.{opposite};
-ghost use Rattle.sat_core.specs.Search.{IsTrail, Justified, ClauseLists, clause_lists, lists_of, IsDerivation, HasClause, clause_of, AllFalse, MadeTrue, lit_at, step_at, opens_level};
+ghost use Rattle.sat_core.specs.Search.{IsTrail, Justified, ClauseLists, clause_lists, lists_of, IsDerivation};
+ghost use Rattle.sat_core.specs.Search.{HasClause, clause_of, AllFalse, MadeTrue, lit_at, step_at, opens_level};
 ghost use Rattle.sat_core.specs.Found.{IsFalsified};
 ghost use Rattle.sat_core.specs.Learning.{OthersFalse, SameReference, Asserts, IsLearntFrom};
 
@@ -33,7 +34,8 @@ pub struct LearntClause {
 fn after(trail: &Trail, lit: Lit) -> usize
     requires trail { IsTrail trail.now.steps.items trail.now.places.items }
     requires false_ { MadeTrue trail.now.steps.items (length trail.now.steps.items) (opposite lit) }
-    ensures { (p : ℕ) × (result ≡ p + 1) × (p < length trail.now.steps.items) × (lit_at trail.now.steps.items p ≡ opposite lit) }
+    ensures { (p : ℕ) × (result ≡ p + 1) × (p < length trail.now.steps.items) ×
+        (lit_at trail.now.steps.items p ≡ opposite lit) }
 {
     match trail.place(lit.var) {
         Some(place) => place + 1,
@@ -46,7 +48,8 @@ fn others_end(lits: &[Lit], but: Lit, trail: &Trail) -> usize
     requires trail { IsTrail trail.now.steps.items trail.now.places.items }
     requires all { AllFalse trail.now.steps.items (length trail.now.steps.items) lits.now }
     ensures covers { OthersFalse trail.now.steps.items result lits.now but }
-    ensures least { (n : ℕ) → n ≤ length trail.now.steps.items → OthersFalse trail.now.steps.items n lits.now but → result ≤ n }
+    ensures least { (n : ℕ) → n ≤ length trail.now.steps.items → OthersFalse trail.now.steps.items n lits.now but
+        → result ≤ n }
 {
     let mut end = 0;
     for lit in lits {
@@ -63,8 +66,10 @@ fn backjump_point(trail: &Trail, at: usize, lits: &[Lit]) -> Option<usize>
     requires trail { IsTrail trail.now.steps.items trail.now.places.items }
     requires at { at < length trail.now.steps.items }
     requires all { AllFalse trail.now.steps.items (at + 1) lits.now }
-    ensures some { IfSome result (λ keep. Asserts trail.now.steps.items lits.now (opposite (lit_at trail.now.steps.items at)) keep) }
-    ensures none { result ≡ None → Contains lits.now (opposite (lit_at trail.now.steps.items at)) → opens_level (step_at trail.now.steps.items at).reason ≡ false }
+    ensures some { IfSome result (λ keep. Asserts trail.now.steps.items lits.now
+        (opposite (lit_at trail.now.steps.items at)) keep) }
+    ensures none { result ≡ None → Contains lits.now (opposite (lit_at trail.now.steps.items at))
+        → opens_level (step_at trail.now.steps.items at).reason ≡ false }
 {
     let lit = trail.step(at).lit.negated();
     if !has(lits, lit) {
@@ -83,10 +88,13 @@ fn resolve_at(
 ) -> Result<(), NoMemory>
     requires at { at < length trail.now.steps.items }
     requires justified { Justified (lists_of database) trail.now.steps.items }
-    requires forced { Contains resolvent.old.lits.items (opposite (lit_at trail.now.steps.items at)) → (step_at trail.now.steps.items at).reason ≡ None → ⊥ }
+    requires forced { Contains resolvent.old.lits.items (opposite (lit_at trail.now.steps.items at))
+        → (step_at trail.now.steps.items at).reason ≡ None → ⊥ }
     requires all { AllFalse trail.now.steps.items (at + 1) resolvent.old.lits.items }
     ensures all { OnOk result (AllFalse trail.now.steps.items at resolvent.new.lits.items) }
-    ensures derived { OnOk result ((k : ClauseLists) → (Contains resolvent.old.lits.items (opposite (lit_at trail.now.steps.items at)) → SameReference k (lists_of database.entry) (step_at trail.now.steps.items at).reason)
+    ensures derived { OnOk result ((k : ClauseLists)
+        → (Contains resolvent.old.lits.items (opposite (lit_at trail.now.steps.items at))
+        → SameReference k (lists_of database.entry) (step_at trail.now.steps.items at).reason)
         → IsDerivation k resolvent.old.derivation.first resolvent.old.derivation.rest.items resolvent.old.lits.items
         → IsDerivation k resolvent.new.derivation.first resolvent.new.derivation.rest.items resolvent.new.lits.items) }
 {
@@ -110,7 +118,8 @@ pub fn analyse(
     requires trail { IsTrail trail.now.steps.items trail.now.places.items }
     requires justified { Justified (lists_of database) trail.now.steps.items }
     requires falsified { IsFalsified (lists_of database) trail.now.steps.items reason }
-    ensures { IfOk result (λ learnt_clause. IsLearntFrom (clause_lists database.entry.added.now database.entry.learnt.now []) trail.now.steps.items learnt_clause) }
+    ensures { IfOk result (λ learnt_clause. IsLearntFrom (clause_lists database.entry.added.now
+        database.entry.learnt.now []) trail.now.steps.items learnt_clause) }
 {
     let mut resolvent = Resolvent::new(alloc, database, reason)?;
     let mut at = trail.len();
@@ -145,9 +154,12 @@ pub fn refute(
     requires trail { IsTrail trail.now.steps.items trail.now.places.items }
     requires justified { Justified (lists_of database) trail.now.steps.items }
     requires named { HasClause (lists_of database) reason }
-    requires all { AllFalse trail.now.steps.items (length trail.now.steps.items) (clause_of (lists_of database) reason) }
-    requires undecided { (p : ℕ) → p < length trail.now.steps.items → (step_at trail.now.steps.items p).reason ≡ None → ⊥ }
-    ensures { IfOk result (λ derivation. IsDerivation (lists_of database.entry) derivation.first derivation.rest.items []) }
+    requires all { AllFalse trail.now.steps.items (length trail.now.steps.items)
+        (clause_of (lists_of database) reason) }
+    requires undecided { (p : ℕ) → p < length trail.now.steps.items
+        → (step_at trail.now.steps.items p).reason ≡ None → ⊥ }
+    ensures { IfOk result (λ derivation. IsDerivation (lists_of database.entry) derivation.first
+        derivation.rest.items []) }
 {
     let mut resolvent = Resolvent::new(alloc, database, reason)?;
     let mut at = trail.len();

@@ -62,9 +62,11 @@ impl Resolvent {
         requires named { HasClause (lists_of database) reason }
         requires on_left { Contains self.old.lits.items (opposite lit) }
         requires on_right { Contains (clause_of (lists_of database) reason) lit }
-        ensures lits { OnOk result (Resolves self.old.lits.items (clause_of (lists_of database.entry) reason) (opposite lit) self.new.lits.items) }
+        ensures lits { OnOk result (Resolves self.old.lits.items (clause_of (lists_of database.entry) reason)
+            (opposite lit) self.new.lits.items) }
         ensures first { self.new.derivation.first ≡ self.old.derivation.first }
-        ensures rest { OnOk result (self.new.derivation.rest.items ≡ self.old.derivation.rest.items ++ record { var = lit.var; reason = reason } ∷ []) }
+        ensures rest { OnOk result (self.new.derivation.rest.items
+            ≡ self.old.derivation.rest.items ++ record { var = lit.var; reason = reason } ∷ []) }
     {
         let mut resolvent = without(*self.lits.allocator(), self.lits.as_slice(), lit.negated())?;
         join(&mut resolvent, lits(database, reason), lit)?;

@@ -5,7 +5,9 @@ ghost use Rattle.sat_core.specs.declared.chain.Resolution.{Resolution};
 ghost use Rattle.clause_log.specs.Derivations.{Derives};
 ghost use Rattle.sat_core.specs.Search.{clause_lists, IsDerivation};
 ghost use Rattle.sat_core.specs.Decisions.{AreDerivations};
-ghost use Rattle.sat_core.specs.Numbering.{log_number, log_pivot, HasNumber, AllHaveNumbers, IsBelow, AllBelow, marks_with, MarksMore, AllNeeded, AreNeeded, AreBelow, IsNumbered, clauses_with_units};
+ghost use Rattle.sat_core.specs.Numbering.{log_number, log_pivot, HasNumber, AllHaveNumbers, IsBelow, AllBelow};
+ghost use Rattle.sat_core.specs.Numbering.{marks_with, MarksMore, AllNeeded, AreNeeded, AreBelow, IsNumbered};
+ghost use Rattle.sat_core.specs.Numbering.{clauses_with_units};
 
 use crate::chain::{Derivation, Resolution};
 use crate::clause_ref::ClauseRef;
@@ -95,7 +97,8 @@ fn pivots(
     added: usize,
     numbers: &[usize],
 ) -> Result<Pivots, NoMemory>
-    requires { (place : ℕ) → (none : Resolution) → place < length resolutions.now → HasNumber added numbers.now (slice_index_or resolutions.now place none).reason }
+    requires { (place : ℕ) → (none : Resolution) → place < length resolutions.now
+        → HasNumber added numbers.now (slice_index_or resolutions.now place none).reason }
     ensures { IfOk result (λ pivots. pivots ≡ map (log_pivot added numbers.now) resolutions.now) }
 {
     let mut pivots = Pivots::new(alloc);
@@ -147,7 +150,8 @@ fn chains(
     requires derived { AreDerivations added.now learnt.now derivations.now }
     requires count { length needed.now ≡ length learnt.now }
     requires needed { AreNeeded needed.now derivations.now }
-    ensures { IfOk result (λ n. IsNumbered added.now learnt.now assumed.now needed.now (length learnt.now) n.numbers.items n.log) }
+    ensures { IfOk result (λ n. IsNumbered added.now learnt.now assumed.now needed.now
+        (length learnt.now) n.numbers.items n.log) }
 {
     let mut log = ChainLog::new(alloc);
     let mut numbers = Vec::new(alloc);

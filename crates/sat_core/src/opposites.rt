@@ -1,6 +1,7 @@
 //! Opposite assumptions: `opposites` finds two, and `units_log` is the log that resolves them.
 
-ghost use Rattle.std.specs.Prelude.{◌≡◌, ◌<◌, ◌+◌, ℕ, List, [], ◌∷◌, length, IfOk, MatchOption, Contains, slice_index_or};
+ghost use Rattle.std.specs.Prelude.{◌≡◌, ◌<◌, ◌+◌, ℕ, List, [], ◌∷◌, length, IfOk, MatchOption, Contains};
+ghost use Rattle.std.specs.Prelude.{slice_index_or};
 ghost use Rattle.cnf.specs.declared.lit.Lit.{Lit};
 ghost use Rattle.cnf.specs.Clauses.{opposite};
 ghost use Rattle.clause_log.specs.Derivations.{Derives};

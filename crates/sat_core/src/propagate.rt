@@ -25,7 +25,8 @@ pub fn propagate(
     ensures trail { IsTrail trail.new.steps.items trail.new.places.items }
     ensures justified { Justified (lists_of database.entry) trail.new.steps.items }
     ensures vars { length trail.new.places.items ≡ length trail.old.places.items }
-    ensures weight { trail_weight trail.new.steps.items trail.new.places.items ≤ trail_weight trail.old.steps.items trail.old.places.items }
+    ensures weight { trail_weight trail.new.steps.items trail.new.places.items ≤ trail_weight trail.old.steps.items
+        trail.old.places.items }
     ensures ends { IfOk result (Ends (lists_of database.entry) trail.new.steps.items) }
 {
     loop {

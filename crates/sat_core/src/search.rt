@@ -1,9 +1,11 @@
 //! The search: `search` propagates, learns and decides until it has a model or the empty clause. It may touch the
 //! trail, the learnt clauses and the phases.
 
-ghost use Rattle.std.specs.Prelude.{◌≡◌, ◌<◌, ◌≤◌, ◌∷◌, ◌++◌, ℕ, [], true, false, length, map, IfOk, OnOk, OnErr, MatchOption};
+ghost use Rattle.std.specs.Prelude.{◌≡◌, ◌<◌, ◌≤◌, ◌∷◌, ◌++◌, ℕ, [], true, false, length, map, IfOk, OnOk, OnErr};
+ghost use Rattle.std.specs.Prelude.{MatchOption};
 ghost use Rattle.cnf.specs.Clauses.{IsModel};
-ghost use Rattle.sat_core.specs.Search.{IsTrail, AllWithin, Justified, clause_lists, lists_of, unit_clause, IsDerivation, trail_weight, AssumptionsTrue};
+ghost use Rattle.sat_core.specs.Search.{IsTrail, AllWithin, Justified, clause_lists, lists_of, unit_clause};
+ghost use Rattle.sat_core.specs.Search.{IsDerivation, trail_weight, AssumptionsTrue};
 ghost use Rattle.sat_core.specs.Found.{IsFalsified, NothingFalsified};
 ghost use Rattle.sat_core.specs.Decisions.{IsSearchState, AreDerivations, IsAnswer, AllAssigned};
 
@@ -69,7 +71,8 @@ fn model(alloc: Global, database: Database<'_>, trail: &Trail) -> Result<Model01
     requires assumed { AssumptionsTrue (lists_of database) trail.now.steps.items (length trail.now.steps.items) }
     requires within { AllWithin (length trail.now.places.items) database.added.now }
     requires assumed_within { AllWithin (length trail.now.places.items) (map unit_clause database.assumed.now) }
-    ensures { IfOk result (IsModel (length trail.now.places.items) (database.entry.added.now ++ map unit_clause database.entry.assumed.now)) }
+    ensures { IfOk result (IsModel (length trail.now.places.items)
+        (database.entry.added.now ++ map unit_clause database.entry.assumed.now)) }
 {
     let mut values = Vec::new(alloc);
     for var in 0..trail.vars() {
@@ -90,15 +93,20 @@ fn learn<'a>(
     phases: &mut [bool],
     reason: ClauseRef,
 ) -> Result<Option<Derivation>, NoMemory>
-    requires state { IsSearchState (length phases.old) added.now learnt.old.clauses.items assumed.now trail.old.steps.items trail.old.places.items }
+    requires state { IsSearchState (length phases.old) added.now learnt.old.clauses.items assumed.now
+        trail.old.steps.items trail.old.places.items }
     requires derived { AreDerivations added.now learnt.old.clauses.items learnt.old.derivations.items }
-    requires falsified { IsFalsified (clause_lists added.now learnt.old.clauses.items assumed.now) trail.old.steps.items reason }
+    requires falsified { IsFalsified (clause_lists added.now learnt.old.clauses.items assumed.now)
+        trail.old.steps.items reason }
     ensures learnt { AllWithin (length phases.old) learnt.new.clauses.items }
     ensures derived { AreDerivations added.now learnt.new.clauses.items learnt.new.derivations.items }
     ensures done { IfOk result (λ found. MatchOption found
-        (IsSearchState (length phases.old) added.now learnt.new.clauses.items assumed.now trail.new.steps.items trail.new.places.items
-        × (trail_weight trail.new.steps.items trail.new.places.items < trail_weight trail.old.steps.items trail.old.places.items))
-        (λ derivation. IsDerivation (clause_lists added.now learnt.new.clauses.items assumed.now) derivation.first derivation.rest.items [])) }
+        (IsSearchState (length phases.old) added.now learnt.new.clauses.items assumed.now trail.new.steps.items
+        trail.new.places.items
+        × (trail_weight trail.new.steps.items trail.new.places.items < trail_weight trail.old.steps.items
+        trail.old.places.items))
+        (λ derivation. IsDerivation (clause_lists added.now learnt.new.clauses.items assumed.now) derivation.first
+        derivation.rest.items [])) }
 {
     let database = Database {
         added,
@@ -134,11 +142,14 @@ fn advance(
     trail: &mut Trail,
     phases: &mut [bool],
 ) -> Result<Option<Answer>, NoMemory>
-    requires state { IsSearchState (length phases.old) database.added.now database.learnt.now database.assumed.now trail.old.steps.items trail.old.places.items }
+    requires state { IsSearchState (length phases.old) database.added.now database.learnt.now database.assumed.now
+        trail.old.steps.items trail.old.places.items }
     requires quiet { NothingFalsified (lists_of database) trail.old.steps.items }
     ensures done { IfOk result (λ found. MatchOption found
-        (IsSearchState (length phases.old) database.entry.added.now database.entry.learnt.now database.entry.assumed.now trail.new.steps.items trail.new.places.items
-        × (trail_weight trail.new.steps.items trail.new.places.items < trail_weight trail.old.steps.items trail.old.places.items))
+        (IsSearchState (length phases.old) database.entry.added.now database.entry.learnt.now
+        database.entry.assumed.now trail.new.steps.items trail.new.places.items
+        × (trail_weight trail.new.steps.items trail.new.places.items < trail_weight trail.old.steps.items
+        trail.old.places.items))
         (IsAnswer (length phases.old) database.entry.added.now database.entry.learnt.now database.entry.assumed.now)) }
 {
     match choose(database, trail, phases) {

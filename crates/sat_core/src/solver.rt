@@ -34,7 +34,8 @@ impl Model for Solver {
 
     ghost view = { λ s. record { vars = length s.phases.items; clauses = s.added.items } };
 
-    ghost invariant = { λ s. IsSolver (length s.phases.items) s.added.items s.learnt.clauses.items s.learnt.derivations.items };
+    ghost invariant = { λ s. IsSolver (length s.phases.items) s.added.items s.learnt.clauses.items
+        s.learnt.derivations.items };
 }
 
 impl Solver {
@@ -58,10 +59,14 @@ impl Solver {
     /// Of opposite assumptions the log has the two unit clauses alone.
     pub fn solve(&mut self, assumptions: &[Lit]) -> Result<Outcome, NoMemory>
         requires { All (λ lit. lit.var < self.old.vars) assumptions.now }
-        ensures sat { IfOk result (λ outcome. IfSat outcome (IsModel self.old.vars (self.old.clauses ++ map unit_clause assumptions.now))) }
-        ensures unsat { IfOk result (λ outcome. IfUnsat outcome (λ _. HasNoModel self.old.vars (self.old.clauses ++ map unit_clause assumptions.now))) }
-        ensures log { IfOk result (λ outcome. IfUnsat outcome (Derives (self.old.clauses ++ map unit_clause assumptions.now))) }
-        ensures opposite { HasOpposites assumptions.now → IfOk result (λ outcome. IsUnsat outcome (IsOfUnits (length self.old.clauses) assumptions.now)) }
+        ensures sat { IfOk result (λ outcome. IfSat outcome
+            (IsModel self.old.vars (self.old.clauses ++ map unit_clause assumptions.now))) }
+        ensures unsat { IfOk result (λ outcome. IfUnsat outcome
+            (λ _. HasNoModel self.old.vars (self.old.clauses ++ map unit_clause assumptions.now))) }
+        ensures log { IfOk result (λ outcome. IfUnsat outcome
+            (Derives (self.old.clauses ++ map unit_clause assumptions.now))) }
+        ensures opposite { HasOpposites assumptions.now
+            → IfOk result (λ outcome. IsUnsat outcome (IsOfUnits (length self.old.clauses) assumptions.now)) }
         ensures vars { self.new.vars ≡ self.old.vars }
         ensures clauses { self.new.clauses ≡ self.old.clauses }
     {
@@ -79,8 +84,10 @@ impl Solver {
     // `solve` by a search.
     fn decide(&mut self, assumptions: &[Lit]) -> Result<Outcome, NoMemory>
         requires { All (λ lit. lit.var < self.old.vars) assumptions.now }
-        ensures sat { IfOk result (λ outcome. IfSat outcome (IsModel self.old.vars (self.old.clauses ++ map unit_clause assumptions.now))) }
-        ensures log { IfOk result (λ outcome. IfUnsat outcome (Derives (self.old.clauses ++ map unit_clause assumptions.now))) }
+        ensures sat { IfOk result (λ outcome. IfSat outcome
+            (IsModel self.old.vars (self.old.clauses ++ map unit_clause assumptions.now))) }
+        ensures log { IfOk result (λ outcome. IfUnsat outcome
+            (Derives (self.old.clauses ++ map unit_clause assumptions.now))) }
         ensures vars { self.new.vars ≡ self.old.vars }
         ensures clauses { self.new.clauses ≡ self.old.clauses }
     {

@@ -1,6 +1,7 @@
 //! The trail: literals in the order in which they were made true, with the place of each variable.
 
-ghost use Rattle.std.specs.Prelude.{◌≡◌, ◌<◌, ◌≤◌, ◌+◌, ◌∷◌, ◌++◌, ◌↔◌, ℕ, [], true, false, length, take, IsTrue, IfOk, IfSome, OnOk, OnErr, MatchOption, slice_index_or, vec_len};
+ghost use Rattle.std.specs.Prelude.{◌≡◌, ◌<◌, ◌≤◌, ◌+◌, ◌∷◌, ◌++◌, ◌↔◌, ℕ, [], true, false, length, take, IsTrue};
+ghost use Rattle.std.specs.Prelude.{IfOk, IfSome, OnOk, OnErr, MatchOption, slice_index_or, vec_len};
 ghost use Rattle.cnf.specs.declared.lit.Lit.{Lit};
 ghost use Rattle.sat_core.specs.Search.{step_at, lit_at, MadeTrue, IsUnassigned, IsTrail, opens_level, ValueIs};
 
@@ -98,7 +99,8 @@ impl Trail {
     pub fn holds(&self, var: usize) -> bool
         requires trail { IsTrail self.now.steps.items self.now.places.items }
         requires var { var < length self.now.places.items }
-        ensures { (lit : Lit) → MadeTrue self.now.steps.items (length self.now.steps.items) lit → lit.var ≡ var → result ≡ lit.positive }
+        ensures { (lit : Lit) → MadeTrue self.now.steps.items (length self.now.steps.items) lit → lit.var ≡ var
+            → result ≡ lit.positive }
     {
         match self.places[var] {
             None => false,
@@ -139,8 +141,10 @@ impl Trail {
     /// The first place from `from` on, and before `to`, whose step opens a level.
     pub fn opening(&self, from: usize, to: usize) -> Option<usize>
         requires { to ≤ length self.now.steps.items }
-        ensures some { IfSome result (λ place. (from ≤ place) × (place < to) × (opens_level (step_at self.now.steps.items place).reason ≡ true)) }
-        ensures none { result ≡ None → (p : ℕ) → from ≤ p → p < to → opens_level (step_at self.now.steps.items p).reason ≡ false }
+        ensures some { IfSome result (λ place. (from ≤ place) × (place < to) ×
+            (opens_level (step_at self.now.steps.items place).reason ≡ true)) }
+        ensures none { result ≡ None → (p : ℕ) → from ≤ p → p < to
+            → opens_level (step_at self.now.steps.items p).reason ≡ false }
     {
         for place in from..to {
             if opens(self.steps[place]) {

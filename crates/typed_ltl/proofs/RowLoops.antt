@@ -6,7 +6,8 @@ use Rattle.typed_ltl.specs.Traces.{assignment, lasso_place, word}
 use Rattle.typed_ltl.specs.Truth.{proposition_truth, IsModerateProposition}
 use Rattle.typed_ltl.specs.Rows.{proposition_row, not_row, and_row, iff_row, then_row, until_back}
 use Rattle.typed_ltl.proofs.Periodicity.{place_before}
-use Rattle.typed_ltl.proofs.RowPlaces.{length_not, at_not, length_and, at_and, length_iff, at_iff, length_successor_row, at_successor_row, length_until, at_until, length_proposition_row, proposition_on_word}
+use Rattle.typed_ltl.proofs.RowPlaces.{length_not, at_not, length_and, at_and, length_iff, at_iff, length_successor_row, at_successor_row, length_until}
+use Rattle.typed_ltl.proofs.RowPlaces.{at_until, length_proposition_row, proposition_on_word}
 use Rattle.typed_ltl.proofs.RowSteps.{Filled, Filled-more, Filled-end, Settled, Settled-more, Settled-end}
 
 -- One step and the end of each loop over rows.

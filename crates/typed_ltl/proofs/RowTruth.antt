@@ -1,4 +1,5 @@
-use Rattle.std.proofs.Common.{◌≡◌, ℕ, suc, ◌+◌, ◌-◌, ◌<◌, ◌↔◌, Bool, true, false, not, ◌&&◌, ◌||◌, ◌⊎◌, List, [], length, get_or, replicate, refl, sym, ap, ◌∙◌, subst, arith}
+use Rattle.std.proofs.Common.{◌≡◌, ℕ, suc, ◌+◌, ◌-◌, ◌<◌, ◌↔◌, Bool, true, false, not, ◌&&◌, ◌||◌, ◌⊎◌, List, [], length, get_or, replicate, refl, sym, ap}
+use Rattle.std.proofs.Common.{◌∙◌, subst, arith}
 use Rattle.std.proofs.lemmas.List.{length-replicate, get_or-replicate, get_or_past, get_or_default}
 use Rattle.std.proofs.lemmas.Bool.{and_from, and_parts, cases_lt, not-true, not_from_false, false_from_ne_true}
 use Rattle.std.proofs.Math.Logic.{inl, inr}
@@ -11,7 +12,8 @@ use Rattle.typed_ltl.specs.Rows.{proposition_row, not_row, and_row, iff_row, unt
 use Rattle.typed_ltl.specs.Rows.{RowsAreRight}
 use Rattle.typed_ltl.proofs.Derived.{or_is_core, implies_is_core, future_is_core, always_is_core, never_is_core, releases_is_core}
 use Rattle.typed_ltl.proofs.Periodicity.{Repeats, until_repeats, truth_repeats, words_recur}
-use Rattle.typed_ltl.proofs.RowPlaces.{length_not, at_not, length_and, at_and, length_iff, at_iff, length_successor_row, at_successor_row, length_until, at_until, length_proposition_row, proposition_on_word}
+use Rattle.typed_ltl.proofs.RowPlaces.{length_not, at_not, length_and, at_and, length_iff, at_iff, length_successor_row, at_successor_row, length_until}
+use Rattle.typed_ltl.proofs.RowPlaces.{at_until, length_proposition_row, proposition_on_word}
 use Rattle.typed_ltl.proofs.Untils.{Table, Backwards, until_told, until_tells}
 
 -- a row has the truth of P at each of n states

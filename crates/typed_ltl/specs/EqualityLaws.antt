@@ -28,7 +28,8 @@ port_refl p x = both_true (p == p) (beq x x) (eq-eqb p p refl) ((booleans_Decide
 
 number_sound : (a b : Number) → number_eq a b ≡ true → a ≡ b
 number_sound (form.Literal x) (form.Literal y) h = ap form.Literal ((signed_Decides x y).0 h)
-number_sound (form.NumberAt p x) (form.NumberAt q y) h = let e = port_sound p q x y h in λ j. form.NumberAt (e.0 j) (e.1 j)
+number_sound (form.NumberAt p x) (form.NumberAt q y) h =
+    let e = port_sound p q x y h in λ j. form.NumberAt (e.0 j) (e.1 j)
 number_sound (form.Sum a b) (form.Sum c d) h =
     let parts = and_parts (number_eq a c) (number_eq b d) h in
     λ j. form.Sum (number_sound a c parts.0 j) (number_sound b d parts.1 j)
@@ -56,7 +57,8 @@ choice_refl (form.NameAt p x) = port_refl p x
 
 -- propositions that pass the test are equal, and equal ones pass it
 pub proposition_sound : (a b : Proposition) → proposition_eq a b ≡ true → a ≡ b
-proposition_sound (form.TruthAt p x) (form.TruthAt q y) h = let e = port_sound p q x y h in λ j. form.TruthAt (e.0 j) (e.1 j)
+proposition_sound (form.TruthAt p x) (form.TruthAt q y) h =
+    let e = port_sound p q x y h in λ j. form.TruthAt (e.0 j) (e.1 j)
 proposition_sound (form.Equals a b) (form.Equals c d) h =
     let parts = and_parts (number_eq a c) (number_eq b d) h in
     λ j. form.Equals (number_sound a c parts.0 j) (number_sound b d parts.1 j)

@@ -1,6 +1,7 @@
 -- Serves proofs only. How truth on a lasso is computed: a row has the truth value of one formula at each state of the
 -- lasso. That rows tell the truth is a law of its own (`RowsAreRight`), so `holds_on` speaks of truth alone.
-use Rattle.std.specs.Prelude.{◌≡◌, ℕ, ◌+◌, ◌<◌, ◌↔◌, Bool, true, false, not, ◌&&◌, ◌||◌, List, [], ◌∷◌, length, get_or, replicate}
+use Rattle.std.specs.Prelude.{◌≡◌, ℕ, ◌+◌, ◌<◌, ◌↔◌, Bool, true, false, not, ◌&&◌, ◌||◌, List, [], ◌∷◌, length}
+use Rattle.std.specs.Prelude.{get_or, replicate}
 use Rattle.port_types.specs.declared.types.Value.{Value}
 use Rattle.typed_ltl.specs.Formulas.{Proposition, Ltl}
 use Rattle.typed_ltl.specs.Formulas as form

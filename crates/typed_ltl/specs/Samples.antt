@@ -1,4 +1,5 @@
--- Serves tests only. Valuations whose numbers are at most 1000, and formulas whose terms stay moderate on traces of them.
+-- Serves tests only. Valuations whose numbers are at most 1000, and formulas whose terms stay moderate on traces of
+-- them.
 use Rattle.std.specs.Prelude.{◌≡◌, ℕ, ◌≤◌, unsigned_abs, List, All}
 use Rattle.port_types.specs.declared.types.Value.{Value}
 use Rattle.typed_ltl.specs.Formulas.{Proposition, Ltl}

@@ -2,7 +2,8 @@
 -- linear temporal logic over state predicates that may also read the next state (Pnueli, The Temporal
 -- Logic of Programs, 1977; Manna and Pnueli, The Temporal Logic of Reactive and Concurrent Systems,
 -- 1992, and Lamport, The Temporal Logic of Actions, 1994, for values in the next state).
-use Rattle.std.specs.Prelude.{◌≡◌, ℕ, ◌+◌, ◌^◌, ◌<◌, ◌≤◌, Bool, true, false, List, [], ℤ, pos, ◌+ℤ◌, ◌-ℤ◌, neg_ℤ, int_le, unsigned_abs}
+use Rattle.std.specs.Prelude.{◌≡◌, ℕ, ◌+◌, ◌^◌, ◌<◌, ◌≤◌, Bool, true, false, List, [], ℤ, pos, ◌+ℤ◌, ◌-ℤ◌, neg_ℤ}
+use Rattle.std.specs.Prelude.{int_le, unsigned_abs}
 use Rattle.std.specs.Ordering.{int_eq}
 use Rattle.std.specs.Str.{bytes_eq}
 use Rattle.port_types.specs.declared.types.Value.{Value}

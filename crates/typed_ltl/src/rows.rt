@@ -5,7 +5,8 @@ ghost use Rattle.std.specs.Prelude.{◌≡◌, ℕ, ◌+◌, ◌<◌, ◌≤◌,
 ghost use Rattle.typed_ltl.specs.Formulas.{proposition_of};
 ghost use Rattle.typed_ltl.specs.Traces.{assignment, lasso_place, word};
 ghost use Rattle.typed_ltl.specs.Truth.{IsModerateProposition};
-ghost use Rattle.typed_ltl.specs.Rows.{proposition_row, not_row, and_row, iff_row, then_row, until_back, until_row, future_row};
+ghost use Rattle.typed_ltl.specs.Rows.{proposition_row, not_row, and_row, iff_row, then_row, until_back, until_row};
+ghost use Rattle.typed_ltl.specs.Rows.{future_row};
 ghost use Rattle.typed_ltl.specs.Operators.{unary_row, binary_row};
 
 use crate::atom::Atom;

@@ -11,7 +11,8 @@
 
 ghost use Rattle.std.specs.Prelude.{◌≡◌, ◌<◌, IfOk, length};
 ghost use Rattle.typed_ltl.specs.Formulas.{meaning, number_of, proposition_of, Number};
-ghost use Rattle.typed_ltl.specs.Samples.{IsSmallState, AreSmallStates, IsSmallProposition, IsSmallFormula, IsSmallValue};
+ghost use Rattle.typed_ltl.specs.Samples.{IsSmallState, AreSmallStates, IsSmallProposition, IsSmallFormula};
+ghost use Rattle.typed_ltl.specs.Samples.{IsSmallValue};
 
 use super::{Atom, Bench, Formula, Lasso, Pick, Ports, Term, Valuation, Valuations, holds_on};
 use port_types::{Name, NoMemory, PortId, PortType, Value};

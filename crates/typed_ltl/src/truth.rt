@@ -1,7 +1,8 @@
 //! Truth of a formula on the word of a lasso: `holds_on`, in the room of a `Bench`. Only `Bench::new`
 //! may touch the allocator.
 
-ghost use Rattle.std.specs.Prelude.{◌≡◌, ◌+◌, ◌<◌, ◌≤◌, ◌↔◌, ℕ, IsTrue, IfOk, IfSome, length, max, take, replicate, get_or, []};
+ghost use Rattle.std.specs.Prelude.{◌≡◌, ◌+◌, ◌<◌, ◌≤◌, ◌↔◌, ℕ, IsTrue, IfOk, IfSome, length, max, take, replicate};
+ghost use Rattle.std.specs.Prelude.{get_or, []};
 ghost use Rattle.typed_ltl.specs.Formulas.{meaning, proposition_of, Ltl};
 ghost use Rattle.typed_ltl.specs.Traces.{word};
 ghost use Rattle.typed_ltl.specs.Truth.{Holds, IsModerateOn};
@@ -173,7 +174,8 @@ fn fill_unary(form: Unary, f: &Formula, states: &[Valuation], loop_at: usize, ce
     requires loop_at { loop_at < length states.now }
     requires room { length states.now + cell_count (length states.now) (meaning f.now) ≤ length cells.old }
     requires fits { IsModerateOn (word states.now loop_at) (meaning f.now) }
-    ensures { take (length states.now) cells.new ≡ unary_row form loop_at (truth_row states.now loop_at (meaning f.now)) }
+    ensures { take (length states.now) cells.new
+        ≡ unary_row form loop_at (truth_row states.now loop_at (meaning f.now)) }
 {
     fill(f, states, loop_at, cells);
     let (own, rest) = cells.split_at_mut(states.len());

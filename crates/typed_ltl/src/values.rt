@@ -4,48 +4,47 @@
 ghost use Rattle.std.specs.Prelude.{◌≡◌};
 ghost use Rattle.typed_ltl.specs.Formulas.{number_of, choice_of, proposition_of};
 ghost use Rattle.typed_ltl.specs.Traces.{assignment};
-ghost use Rattle.typed_ltl.specs.Truth.{as_truth, as_number, as_name, number_value, choice_name, proposition_truth, IsModerateNumber, IsModerateProposition};
+ghost use Rattle.typed_ltl.specs.Truth.{as_truth, as_number, as_name, number_value, choice_name, proposition_truth};
+ghost use Rattle.typed_ltl.specs.Truth.{IsModerateNumber, IsModerateProposition};
 
 use crate::atom::Atom;
 use crate::lasso::Valuation;
 use crate::term::{Pick, Term};
 use port_types::{PortId, Value};
 
-impl Valuation {
-    /// The truth value of a port, false where it has none.
-    pub fn truth_of(&self, port: PortId) -> bool
-        ensures { result ≡ as_truth (assignment self.now port.0) }
-    {
-        match self.as_slice().get(port.0 as usize) {
-            Some(Value::Bool(truth)) => *truth,
-            Some(Value::Int(_)) => false,
-            Some(Value::Name(_)) => false,
-            None => false,
-        }
+// The truth value of a port, false where it has none.
+fn truth_at(values: &[Value], port: PortId) -> bool
+    ensures { result ≡ as_truth (assignment values.now port.0) }
+{
+    match values.get(port.0 as usize) {
+        Some(Value::Bool(truth)) => *truth,
+        Some(Value::Int(_)) => false,
+        Some(Value::Name(_)) => false,
+        None => false,
     }
+}
 
-    /// The whole number of a port, 0 where it has none.
-    pub fn number_of(&self, port: PortId) -> i64
-        ensures { result ≡ as_number (assignment self.now port.0) }
-    {
-        match self.as_slice().get(port.0 as usize) {
-            Some(Value::Bool(_)) => 0,
-            Some(Value::Int(number)) => *number,
-            Some(Value::Name(_)) => 0,
-            None => 0,
-        }
+// The whole number of a port, 0 where it has none.
+fn number_at(values: &[Value], port: PortId) -> i64
+    ensures { result ≡ as_number (assignment values.now port.0) }
+{
+    match values.get(port.0 as usize) {
+        Some(Value::Bool(_)) => 0,
+        Some(Value::Int(number)) => *number,
+        Some(Value::Name(_)) => 0,
+        None => 0,
     }
+}
 
-    /// The name that a port has as its value, the empty one where it has none.
-    pub fn name_of(&self, port: PortId) -> &str
-        ensures { result.now ≡ as_name (assignment self.now port.0) }
-    {
-        match self.as_slice().get(port.0 as usize) {
-            Some(Value::Bool(_)) => "",
-            Some(Value::Int(_)) => "",
-            Some(Value::Name(name)) => name.as_str(),
-            None => "",
-        }
+// The name that a port has as its value, the empty one where it has none.
+fn name_at(values: &[Value], port: PortId) -> &str
+    ensures { result.now ≡ as_name (assignment values.now port.0) }
+{
+    match values.get(port.0 as usize) {
+        Some(Value::Bool(_)) => "",
+        Some(Value::Int(_)) => "",
+        Some(Value::Name(name)) => name.as_str(),
+        None => "",
     }
 }
 
@@ -59,7 +58,7 @@ impl Term {
             Term::Const(number) => *number,
             Term::Port { port, next } => {
                 let values = if *next { after } else { now };
-                values.number_of(*port)
+                number_at(values.as_slice(), *port)
             }
             Term::Plus(a, b) => a.get().value(now, after) + b.get().value(now, after),
             Term::Minus(a, b) => a.get().value(now, after) - b.get().value(now, after),
@@ -77,7 +76,7 @@ impl Pick {
             Pick::Name(name) => name.as_str(),
             Pick::Port { port, next } => {
                 let values = if *next { after } else { now };
-                values.name_of(*port)
+                name_at(values.as_slice(), *port)
             }
         }
     }
@@ -92,7 +91,7 @@ impl Atom {
         match self {
             Atom::Port { port, next } => {
                 let values = if *next { after } else { now };
-                values.truth_of(*port)
+                truth_at(values.as_slice(), *port)
             }
             Atom::Equal(a, b) => a.value(now, after) == b.value(now, after),
             Atom::AtMost(a, b) => a.value(now, after) <= b.value(now, after),

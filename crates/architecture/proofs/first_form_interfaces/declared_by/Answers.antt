@@ -35,5 +35,13 @@ returns c =
     let contracts = rw c.in-Some-2.is at c.in_ok-contracts.ensures in
     let inputs = rw c.in-Some-3.is at c.in_ok-inputs.ensures in
     let outputs = rw c.in-Some-4.is at c.in_ok-outputs.ensures in
-    let each = ap (λ names. list_all (form.is_item names) c.args.items.now) (sym ports.1) ∙ (sym c.are_items.ensures ∙ c.if-not-are_items.false) in
-    (and_from _ _ ports.0 (and_from _ _ contracts.0 each), λ j. record { ports = ports.1 j; inputs = inputs.1 j; outputs = outputs.1 j; contracts = contracts.1 j })
+    let each = ap (λ names. list_all (form.is_item names) c.args.items.now) (sym ports.1) ∙ (sym c.are_items.ensures ∙ c.if-not-are_items.false) in (
+      and_from _ _ ports.0 (and_from _ _ contracts.0 each),
+      λ j. record {
+        ports = ports.1 j;
+        inputs = inputs.1 j;
+        outputs = outputs.1 j;
+        contracts =
+            contracts.1 j;
+      },
+    )

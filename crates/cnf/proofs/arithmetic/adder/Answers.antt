@@ -1,6 +1,7 @@
 use Rattle.std.proofs.Common.{◌≡◌, ◌+◌, ◌*◌, ◌<◌, ◌≤◌, ◌∙◌, ap, arith, length}
 use Rattle.cnf.proofs.ModelLaws.{IsConservative_trans}
-use Rattle.cnf.proofs.GateSteps.{All_later, no_lit, lit_below, known_bits, first_of, place_of, sum_begins, sum_goes_on, sum_bits_begin, sum_bits_go_on, sum_ends, sum_bits_end, sum_means, length-sum_bits}
+use Rattle.cnf.proofs.GateSteps.{All_later, no_lit, lit_below, known_bits, first_of, place_of, sum_begins, sum_goes_on, sum_bits_begin, sum_bits_go_on}
+use Rattle.cnf.proofs.GateSteps.{sum_ends, sum_bits_end, sum_means, length-sum_bits}
 use Rattle.cnf.proofs.arithmetic.adder.Goals as goal
 
 pub returns-in_err-carry-clause-grows : goal.returns-in_err-carry-clause-grows
@@ -47,7 +48,8 @@ loop-i-preserved g c =
       vars = omega (arith, c.in_ok-place.ensures.vars, c.loop-i.invariant.vars);
       differ = lit_below _ _ c.in_ok-place.place.either c.in_ok-place.ensures.either (omega (arith, c.in_ok-place.ensures.vars));
       carry = lit_below _ _ c.in_ok-place.place.carry c.in_ok-place.ensures.carry (omega (arith, c.in_ok-place.ensures.vars));
-      clauses = sum_goes_on _ _ (g.B.ClauseBase.clauses c.loop-i.base) _ _ _ _ _ _ _ _ c.loop-i.differ c.loop-i.carry c.in_ok-place.place.either c.in_ok-place.place.carry
+      clauses = sum_goes_on _ _ (g.B.ClauseBase.clauses c.loop-i.base) _ _ _ _ _ _ _ _ c.loop-i.differ c.loop-i.carry c.in_ok-place.place.either
+          c.in_ok-place.place.carry
           (place_of c.args.a.now c.loop-i.i no_lit c.loop-i-test.true) (place_of c.args.b.now c.loop-i.i no_lit within)
           c.in_ok-place.ensures.vars c.in_ok-place.ensures.either c.in_ok-place.ensures.carry c.in_ok-place.ensures.clauses c.loop-i.invariant.clauses;
       bits = sum_bits_go_on _ _ c.loop-i.sum _ _ _ _ _ c.in_ok-place.place.sum (place_of c.args.a.now c.loop-i.i no_lit c.loop-i-test.true)
@@ -77,7 +79,8 @@ returns-clause-clauses g c =
 
 pub returns-clause-answer : goal.returns-clause-answer
 returns-clause-answer g c =
-    sum_bits_end _ _ c.loop-i.sum _ _ c.args.a.now c.in_ok-sign.sign c.loop-i-test.false c.in_ok-sign.ensures.answer c.in_ok-push-3.ensures.ok c.loop-i.invariant.bits
+    sum_bits_end _ _ c.loop-i.sum _ _ c.args.a.now c.in_ok-sign.sign c.loop-i-test.false c.in_ok-sign.ensures.answer c.in_ok-push-3.ensures.ok
+    c.loop-i.invariant.bits
 
 pub returns-clause-vars : goal.returns-clause-vars
 returns-clause-vars g c =

@@ -9,7 +9,8 @@ invariant-loop-i g l = record {
   vars : g.B.ClauseBase.vars l.base + 1 ≡ g.B.ClauseBase.vars l.fn.base + 3 * l.i;
   differ : l.differ.var < g.B.ClauseBase.vars l.base;
   carry : l.carry.var < g.B.ClauseBase.vars l.base;
-  clauses : g.B.ClauseBase.clauses l.base ++ later_sum_clauses (g.B.ClauseBase.vars l.base) l.differ l.carry (drop l.i l.a) (drop l.i l.b) ≡ g.B.ClauseBase.clauses l.fn.base ++ sum_clauses (g.B.ClauseBase.vars l.fn.base) l.a l.b;
+  clauses : g.B.ClauseBase.clauses l.base ++ later_sum_clauses (g.B.ClauseBase.vars l.base) l.differ l.carry (drop l.i l.a)
+      (drop l.i l.b) ≡ g.B.ClauseBase.clauses l.fn.base ++ sum_clauses (g.B.ClauseBase.vars l.fn.base) l.a l.b;
   bits : l.sum ++ later_sum_bits (g.B.ClauseBase.vars l.base) (drop l.i l.a) ≡ sum_bits (g.B.ClauseBase.vars l.fn.base) l.a;
   grows : IsConservative (g.B.ClauseBase.vars l.fn.base) (g.B.ClauseBase.clauses l.fn.base) (g.B.ClauseBase.vars l.base) (g.B.ClauseBase.clauses l.base);
 }

@@ -32,8 +32,10 @@ loop-place-preserved g c = record {
   vars = omega (arith, c.in_ok-greater-2.ensures.vars, c.loop-place.invariant.vars);
   greater = ap (λ (l : Lit). l.var + 1) c.in_ok-greater-2.ensures.answer ∙ sym c.in_ok-greater-2.ensures.vars;
   positive = c.in_ok-greater-2.ensures.answer ∙ ap (λ (l : Lit). literal l.var) (sym c.in_ok-greater-2.ensures.answer);
-  clauses = le_goes_on _ _ (g.B.ClauseBase.clauses c.loop-place.base) _ _ _ _ c.comparison_pair-in-loop-place.result.0 c.comparison_pair-in-loop-place.result.1 c.negated-not_y-in-loop-place.result c.loop-place.greater c.in_ok-greater-2.greater
-      c.comparison_pair-in-loop-place.ensures.bits c.negated-not_y-in-loop-place.ensures c.in_ok-greater-2.ensures.vars c.in_ok-greater-2.ensures.answer c.in_ok-greater-2.ensures.clauses c.loop-place.invariant.clauses;
+  clauses = le_goes_on _ _ (g.B.ClauseBase.clauses c.loop-place.base) _ _ _ _ c.comparison_pair-in-loop-place.result.0
+      c.comparison_pair-in-loop-place.result.1 c.negated-not_y-in-loop-place.result c.loop-place.greater c.in_ok-greater-2.greater
+      c.comparison_pair-in-loop-place.ensures.bits c.negated-not_y-in-loop-place.ensures c.in_ok-greater-2.ensures.vars
+      c.in_ok-greater-2.ensures.answer c.in_ok-greater-2.ensures.clauses c.loop-place.invariant.clauses;
   grows = IsConservative_trans _ _ _ _ _ _ c.loop-place.invariant.grows c.gate_majority.ensures.grows;
 }
 
@@ -43,7 +45,8 @@ returns-clause-clauses g c = le_ends _ _ _ _ _ c.args.a.now c.args.b.now c.requi
 pub returns-clause-value : goal.returns-clause-value
 returns-clause-value g c =
     let whole : c.loop-place.place ≡ length c.args.a.now = omega (arith, c.loop-place-test.false, c.requires.some) in
-    let em : g.B.ClauseBase.vars c.loop-place.base ≡ g.B.ClauseBase.vars c.args.base.now + length c.args.a.now = c.loop-place.invariant.vars ∙ ap (λ k. g.B.ClauseBase.vars c.args.base.now + k) whole in
+    let em : g.B.ClauseBase.vars c.loop-place.base ≡ g.B.ClauseBase.vars c.args.base.now + length c.args.a.now = c.loop-place.invariant.vars ∙ ap
+    (λ k. g.B.ClauseBase.vars c.args.base.now + k) whole in
     let at : c.loop-place.greater.var ≡ g.B.ClauseBase.vars c.args.base.now + length c.args.a.now - 1 = omega (arith, em, c.loop-place.invariant.greater) in
     le_means _ _ _ _ c.args.a.now c.args.b.now _ c.loop-place.greater c.requires.same c.requires.some c.requires.left c.requires.right em
     (positive_at _ _ c.loop-place.invariant.positive at)

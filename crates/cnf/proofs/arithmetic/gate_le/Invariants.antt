@@ -10,6 +10,7 @@ invariant-loop-place g l = record {
   vars : g.B.ClauseBase.vars l.base ≡ g.B.ClauseBase.vars l.fn.base + l.place;
   greater : l.greater.var + 1 ≡ g.B.ClauseBase.vars l.base;
   positive : l.greater ≡ literal l.greater.var;
-  clauses : g.B.ClauseBase.clauses l.base ++ later_greater_clauses (g.B.ClauseBase.vars l.base) l.greater (drop l.place (comparison_pairs l.a l.b)) ≡ g.B.ClauseBase.clauses l.fn.base ++ le_clauses (g.B.ClauseBase.vars l.fn.base) l.a l.b;
+  clauses : g.B.ClauseBase.clauses l.base ++ later_greater_clauses (g.B.ClauseBase.vars l.base) l.greater
+      (drop l.place (comparison_pairs l.a l.b)) ≡ g.B.ClauseBase.clauses l.fn.base ++ le_clauses (g.B.ClauseBase.vars l.fn.base) l.a l.b;
   grows : IsConservative (g.B.ClauseBase.vars l.fn.base) (g.B.ClauseBase.clauses l.fn.base) (g.B.ClauseBase.vars l.base) (g.B.ClauseBase.clauses l.base);
 }

@@ -24,8 +24,10 @@ loop-i-preserved g c = record {
   vars = c.add_place.ensures.vars ∙ c.loop-i.invariant.vars;
   greater = All_later _ _ _ (omega (arith, c.loop-i.invariant.vars)) c.in_ok-add_place.ensures.greater;
   less = All_later _ _ _ (omega (arith, c.loop-i.invariant.vars)) c.in_ok-add_place.ensures.less;
-  added = at_most_go_on c.loop-i.i _ (g.B.ClauseBase.clauses c.loop-i.base) _ _ c.loop-i.greater.items c.loop-i.less.items _ _ _ _ c.lit_down-lit.result c.bit_down-set.result c.loop-i.invariant.added.0 c.in_ok-add_place.ensures.ok.0
-      c.lit_down-lit.ensures.at c.bit_down-set.ensures c.loop-i.invariant.added.1 c.loop-i.invariant.added.2 c.in_ok-add_place.ensures.ok.1 c.in_ok-add_place.ensures.ok.2;
+  added = at_most_go_on c.loop-i.i _ (g.B.ClauseBase.clauses c.loop-i.base) _ _ c.loop-i.greater.items c.loop-i.less.items _ _ _ _
+      c.lit_down-lit.result c.bit_down-set.result c.loop-i.invariant.added.0 c.in_ok-add_place.ensures.ok.0
+      c.lit_down-lit.ensures.at c.bit_down-set.ensures c.loop-i.invariant.added.1 c.loop-i.invariant.added.2 c.in_ok-add_place.ensures.ok.1
+      c.in_ok-add_place.ensures.ok.2;
 }
 
 pub returns-in_err-add-clause-grows : goal.returns-in_err-add-clause-grows
@@ -35,14 +37,17 @@ returns-in_err-add-clause-grows g c =
 
 pub returns-clause-clauses : goal.returns-clause-clauses
 returns-clause-clauses g c =
-    at_most_whole _ c.loop-i.i _ (g.B.ClauseBase.clauses c.loop-i.base) _ c.args.row.now c.args.bound.now c.loop-i.greater.items c.loop-i.less.items c.loop-i.invariant.added.0
+    at_most_whole _ c.loop-i.i _ (g.B.ClauseBase.clauses c.loop-i.base) _ c.args.row.now c.args.bound.now c.loop-i.greater.items c.loop-i.less.items
+    c.loop-i.invariant.added.0
     c.loop-i-test.false c.loop-i.invariant.added.1 c.loop-i.invariant.added.2 (rw c.deref.ensures.value at c.in_ok-add.ensures.ok)
 
 pub returns-clause-value : goal.returns-clause-value
 returns-clause-value g c =
-    at_most_const_means _ _ _ _ c.args.row.now c.args.bound.now _ c.requires.same c.requires.known (c.add.ensures.vars ∙ c.loop-i.invariant.vars) (returns-clause-clauses g c)
+    at_most_const_means _ _ _ _ c.args.row.now c.args.bound.now _ c.requires.same c.requires.known (c.add.ensures.vars ∙ c.loop-i.invariant.vars)
+    (returns-clause-clauses g c)
     (ap literal c.in_ok-new_var.ensures.number)
 
 pub returns-clause-grows : goal.returns-clause-grows
 returns-clause-grows g c =
-    gate_grows_whole _ _ _ _ _ (at_most_const_fits _ c.args.row.now c.args.bound.now c.requires.same c.requires.known) (c.add.ensures.vars ∙ c.loop-i.invariant.vars) (returns-clause-clauses g c)
+    gate_grows_whole _ _ _ _ _ (at_most_const_fits _ c.args.row.now c.args.bound.now c.requires.same c.requires.known)
+    (c.add.ensures.vars ∙ c.loop-i.invariant.vars) (returns-clause-clauses g c)

@@ -12,5 +12,6 @@ invariant-loop-i g l = record {
   greater : All (λ lit. lit.var < g.B.ClauseBase.vars l.fn.base + 1) l.greater.items;
   less : All (λ lit. lit.var < g.B.ClauseBase.vars l.fn.base + 1) l.less.items;
   added : (front : List (List Lit)) × (g.B.ClauseBase.clauses l.base ≡ g.B.ClauseBase.clauses l.fn.base ++ front)
-      × (front ++ at_most_down l.greater.items l.less.items (drop l.i (sign_first opposite l.row)) (drop l.i (sign_first not l.bound)) ≡ at_most_const_clauses (g.B.ClauseBase.vars l.fn.base) l.row l.bound);
+      × (front ++ at_most_down l.greater.items l.less.items (drop l.i (sign_first opposite l.row))
+      (drop l.i (sign_first not l.bound)) ≡ at_most_const_clauses (g.B.ClauseBase.vars l.fn.base) l.row l.bound);
 }

@@ -7,4 +7,5 @@ gate_all-requires g c = All-opposite-at _ c.args.lits.now _ (c.deref.ensures.val
 
 pub returns-clause-value : goal.returns-clause-value
 returns-clause-value g c =
-    any_from_none _ _ _ c.args.lits.now _ _ _ c.requires c.in_ok-none.ensures.vars (c.deref.ensures.value ∙ c.in_ok-others.ensures) c.in_ok-none.ensures.answer c.negated.ensures c.in_ok-none.ensures.value
+    any_from_none _ _ _ c.args.lits.now _ _ _ c.requires c.in_ok-none.ensures.vars
+    (c.deref.ensures.value ∙ c.in_ok-others.ensures) c.in_ok-none.ensures.answer c.negated.ensures c.in_ok-none.ensures.value

@@ -16,7 +16,8 @@ loop-place-init c ok =
     let item = c.args.item.now in
     let v = c.in_ok-entails.entails in
     let table : c.in_ok-table.table.items ≡ map (table_line spec item (driver_rows spec item.component)) (valuations c.in_ok-drivers.drivers.free) =
-    c.in_ok-table.ensures ∙ ap (λ (rows : List (List Driver)). map (table_line spec item rows) (valuations c.in_ok-drivers.drivers.free)) (c.as_slice.ensures ∙ c.in_ok-drivers.ensures.rows) in
+    c.in_ok-table.ensures ∙ ap (λ (rows : List (List Driver)). map (table_line spec item rows) (valuations c.in_ok-drivers.drivers.free))
+    (c.as_slice.ensures ∙ c.in_ok-drivers.ensures.rows) in
     let found = ap (option_map (λ (row : TableLine). row.free)) (c.first_against_entails.ensures ∙ ap (find breaks_entails) c.as_slice-2.ensures.value) in
     verdicts_start spec item c.push.new.self.items v
     (c.in_ok-push.ensures.items ∙ ap (λ (vs : List Verdict). vs ++ v ∷ []) c.new-verdicts.ensures.items)
@@ -32,10 +33,13 @@ loop-place-preserved c ok =
     let s = stands_at item.parts place (omega (arith, c.loop-place-test.true, c.len-place-end.ensures)) in
     let parts : c.as_slice-in-loop-place-2.result.now ≡ item.parts = c.as_slice-in-loop-place-2.ensures in
     let table : c.in_ok-table.table.items ≡ map (table_line spec item (driver_rows spec item.component)) (valuations c.in_ok-drivers.drivers.free) =
-    c.in_ok-table.ensures ∙ ap (λ (rows : List (List Driver)). map (table_line spec item rows) (valuations c.in_ok-drivers.drivers.free)) (c.as_slice.ensures ∙ c.in_ok-drivers.ensures.rows) in
+    c.in_ok-table.ensures ∙ ap (λ (rows : List (List Driver)). map (table_line spec item rows) (valuations c.in_ok-drivers.drivers.free))
+    (c.as_slice.ensures ∙ c.in_ok-drivers.ensures.rows) in
     let told = c.in_ok-assumes.ensures s.0 (ap (λ (ps : List Part). slice_get ps place) parts ∙ s.1) in
-    let same = ap (λ (ps : List Part). option_map (λ (row : TableLine). row.free) (find (breaks_assumes ps place s.0) c.as_slice-in-loop-place.result.now)) parts
-    ∙ ap (λ (t : List TableLine). option_map (λ (row : TableLine). row.free) (find (breaks_assumes item.parts place s.0) t)) c.as_slice-in-loop-place.ensures.value in
+    let same = ap (λ (ps : List Part). option_map (λ (row : TableLine). row.free)
+    (find (breaks_assumes ps place s.0) c.as_slice-in-loop-place.result.now)) parts
+    ∙ ap (λ (t : List TableLine). option_map (λ (row : TableLine). row.free)
+    (find (breaks_assumes item.parts place s.0) t)) c.as_slice-in-loop-place.ensures.value in
     verdicts_more spec item c.loop-place.verdicts.items c.push-in-loop-place.new.self.items v place s.0
     c.in_ok-push-2.ensures.items s.1 (c.loop-place.invariant ok)
     (assumes_verdict spec ok item c.in_ok-drivers.drivers.free c.in_ok-table.table.items v c.in_ok-drivers.ensures.free table place s.0 s.1

@@ -14,4 +14,5 @@ returns-in-Ok-clause-means g c =
 pub returns-in-Err-TooLong-clause-means : goal.returns-in-Err-TooLong-clause-means
 returns-in-Err-TooLong-clause-means g c =
     c.refused.ensures (g.F.Shelf.held c.args.shelf.now c.args.file.now) (g.F.Shelf.faults c.args.shelf.now) (g.F.Shelf.faults c.read_all.new.shelf)
-    (size_fault (g.F.Shelf.held c.args.shelf.now c.args.file.now) c.fault_at_start.result c.fault_at_start.ensures (c.in-Err-TooLong.ensures.too_long (ap Err c.in-Err-TooLong.field-0-is)))
+    (size_fault (g.F.Shelf.held c.args.shelf.now c.args.file.now) c.fault_at_start.result c.fault_at_start.ensures
+    (c.in-Err-TooLong.ensures.too_long (ap Err c.in-Err-TooLong.field-0-is)))

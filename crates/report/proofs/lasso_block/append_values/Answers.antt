@@ -7,7 +7,8 @@ use Rattle.report.proofs.lasso_block.append_values.Goals as goal
 pub loop-i-preserved : goal.loop-i-preserved
 loop-i-preserved c =
     c.in_ok-append_port_value.ensures
-    ∙ zip_more port_value_text c.args.text.now c.loop-i.text c.args.ports.now c.args.values.now c.loop-i.i c.index-ports-i.result c.index-values-i.result (omega arith) (omega arith)
+    ∙ zip_more port_value_text c.args.text.now c.loop-i.text c.args.ports.now c.args.values.now c.loop-i.i c.index-ports-i.result
+    c.index-values-i.result (omega arith) (omega arith)
     c.index-ports-i.is c.index-values-i.is c.loop-i.invariant
 
 pub returns : goal.returns

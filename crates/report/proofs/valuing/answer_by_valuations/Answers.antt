@@ -5,5 +5,7 @@ pub loop-place-preserved : goal.loop-place-preserved
 loop-place-preserved c = λ ok.
     let same = c.as_slice-item-items.ensures in
     let pushed = rw c.as_slice.ensures at c.in_ok-push_level.ensures in
-    levels_step c.args.spec.now c.args.spec.now.items c.loop-place.place c.item-item.result c.in_ok-verdicts.verdicts c.in_ok-number.field-0 c.loop-place.answers
-    c.push_level.new.answers (rw same at c.loop-place-test.true) (rw same at c.item-item.is) c.in_ok-number.ensures (c.loop-place.invariant ok) (c.in_ok-verdicts.ensures ok) pushed
+    levels_step c.args.spec.now c.args.spec.now.items c.loop-place.place c.item-item.result c.in_ok-verdicts.verdicts c.in_ok-number.field-0
+    c.loop-place.answers
+    c.push_level.new.answers (rw same at c.loop-place-test.true) (rw same at c.item-item.is) c.in_ok-number.ensures (c.loop-place.invariant ok)
+    (c.in_ok-verdicts.ensures ok) pushed

@@ -22,7 +22,8 @@ loop-at-init c =
 
 pub backjump_point-requires-clause-all : goal.backjump_point-requires-clause-all
 backjump_point-requires-clause-all c =
-    AllFalse-at c.args.trail.now.steps.items c.loop-at.at (c.loop-at.at - 1 + 1) c.loop-at.resolvent.lits.items c.as_slice.result.now (omega arith) c.as_slice.ensures.value c.loop-at.invariant.all
+    AllFalse-at c.args.trail.now.steps.items c.loop-at.at (c.loop-at.at - 1 + 1) c.loop-at.resolvent.lits.items c.as_slice.result.now
+    (omega arith) c.as_slice.ensures.value c.loop-at.invariant.all
 
 pub returns-in-Some : goal.returns-in-Some
 returns-in-Some c =
@@ -34,12 +35,14 @@ returns-in-Some c =
       all = AllFalse-later steps c.loop-at.at (length steps) lits c.loop-at.invariant.within c.loop-at.invariant.all;
       turns =
           subst (λ (l : Lit). Asserts steps lits l c.in-Some.keep) (sym e)
-          (subst (λ (l : List Lit). Asserts steps l (opposite (lit_at steps (c.loop-at.at - 1))) c.in-Some.keep) c.as_slice.ensures.value c.in-Some.ensures.some);
+          (subst (λ (l : List Lit). Asserts steps l
+          (opposite (lit_at steps (c.loop-at.at - 1))) c.in-Some.keep) c.as_slice.ensures.value c.in-Some.ensures.some);
     }
 
 pub resolve_at-requires-clause-all : goal.resolve_at-requires-clause-all
 resolve_at-requires-clause-all c =
-    AllFalse-at c.args.trail.now.steps.items c.loop-at.at (c.loop-at.at - 1 + 1) c.loop-at.resolvent.lits.items c.loop-at.resolvent.lits.items (omega arith) refl c.loop-at.invariant.all
+    AllFalse-at c.args.trail.now.steps.items c.loop-at.at (c.loop-at.at - 1 + 1) c.loop-at.resolvent.lits.items c.loop-at.resolvent.lits.items
+    (omega arith) refl c.loop-at.invariant.all
 
 pub returns : goal.returns
 returns c =

@@ -8,12 +8,14 @@ use Rattle.sat_core.proofs.analyse.backjump_point.Goals as goal
 
 pub others_end-end-requires-clause-all : goal.others_end-end-requires-clause-all
 others_end-end-requires-clause-all c =
-    AllFalse-later c.args.trail.now.steps.items (c.args.at + 1) (length c.args.trail.now.steps.items) c.args.lits.now (omega (arith, c.requires.at)) c.requires.all
+    AllFalse-later c.args.trail.now.steps.items (c.args.at + 1) (length c.args.trail.now.steps.items) c.args.lits.now
+    (omega (arith, c.requires.at)) c.requires.all
 
 pub returns-clause-some : goal.returns-clause-some
 returns-clause-some c =
     let e = c.negated-lit.ensures ∙ ap (λ (s : Step). opposite s.lit) c.step.ensures in
-    turning_some c.args.trail.now.steps.items c.args.trail.now.places.items c.args.lits.now c.args.at c.others_end-end.result c.negated-lit.result c.opening.result e c.requires.trail c.requires.at (c.if-not-has.ensures.0 refl) c.others_end-end.ensures.covers c.opening.ensures.some
+    turning_some c.args.trail.now.steps.items c.args.trail.now.places.items c.args.lits.now c.args.at c.others_end-end.result c.negated-lit.result
+    c.opening.result e c.requires.trail c.requires.at (c.if-not-has.ensures.0 refl) c.others_end-end.ensures.covers c.opening.ensures.some
 
 pub returns-clause-none : goal.returns-clause-none
 returns-clause-none c = λ none has.

@@ -26,16 +26,19 @@ loop-lit-preserved c =
           record {
             covers = others-more steps xs i x h r c.loop-lit.end c.if-not-same.end a.0 c.args.but l (omega (arith, m, a.1)) a.3 inv.covers;
             least = λ n le o.
-                let p = others_least steps c.args.trail.now.places.items c.requires.trail n a.0 x c.args.but xs o le (Contains-get_or xs i any_lit h) (λ q. false≢true (w.if-not-same.ensures.1 q)) a.2 a.3 in
+                let p = others_least steps c.args.trail.now.places.items c.requires.trail n a.0 x c.args.but xs o le (Contains-get_or xs i any_lit h)
+                (λ q. false≢true (w.if-not-same.ensures.1 q)) a.2 a.3 in
                 subst (λ q. q ≤ n) (sym e) (max_least c.loop-lit.end w.after.result n (inv.least n le o) (omega (arith, p, a.1)));
           }
       | else-not-same w ↦
           record {
-            covers = subst (λ n. OthersFalse steps n (take (i + 1) xs) c.args.but) (sym w.end-is) (others-skip steps xs i x h r c.loop-lit.end c.args.but (w.if-not-same.ensures.0 refl) inv.covers);
+            covers = subst (λ n. OthersFalse steps n (take (i + 1) xs) c.args.but) (sym w.end-is)
+                (others-skip steps xs i x h r c.loop-lit.end c.args.but (w.if-not-same.ensures.0 refl) inv.covers);
             least = λ n le o. omega (arith, inv.least n le o, w.end-is);
           }
     ]
 
 pub returns-clause-covers : goal.returns-clause-covers
 returns-clause-covers c =
-    subst (λ l. OthersFalse c.args.trail.now.steps.items c.loop-lit.end l c.args.but) (take_all c.loop-lit.lit-index c.args.lits.now (omega arith)) c.loop-lit.invariant.covers
+    subst (λ l. OthersFalse c.args.trail.now.steps.items c.loop-lit.end l c.args.but)
+    (take_all c.loop-lit.lit-index c.args.lits.now (omega arith)) c.loop-lit.invariant.covers

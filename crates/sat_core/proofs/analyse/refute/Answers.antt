@@ -17,11 +17,13 @@ loop-at-init c =
 
 pub resolve_at-requires-clause-all : goal.resolve_at-requires-clause-all
 resolve_at-requires-clause-all c =
-    AllFalse-at c.args.trail.now.steps.items c.loop-at.at (c.loop-at.at - 1 + 1) c.loop-at.resolvent.lits.items c.loop-at.resolvent.lits.items (omega arith) refl c.loop-at.invariant.all
+    AllFalse-at c.args.trail.now.steps.items c.loop-at.at (c.loop-at.at - 1 + 1) c.loop-at.resolvent.lits.items c.loop-at.resolvent.lits.items
+    (omega arith) refl c.loop-at.invariant.all
 
 pub returns : goal.returns
 returns c =
     let steps = c.args.trail.now.steps.items in
     let at : c.loop-at.at ≡ 0 = omega arith in
     let none = none_false steps c.loop-at.resolvent.lits.items (subst (λ n. AllFalse steps n c.loop-at.resolvent.lits.items) at c.loop-at.invariant.all) in
-    subst (λ (l : List Lit). IsDerivation (lists_of c.args.database) c.loop-at.resolvent.derivation.first c.loop-at.resolvent.derivation.rest.items l) none c.loop-at.invariant.derived
+    subst (λ (l : List Lit). IsDerivation (lists_of c.args.database) c.loop-at.resolvent.derivation.first c.loop-at.resolvent.derivation.rest.items l)
+    none c.loop-at.invariant.derived

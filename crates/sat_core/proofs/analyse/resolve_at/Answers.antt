@@ -15,7 +15,8 @@ returns-in_ok-resolve-clause-all c =
     let step = c.step-step.result in
     let k = lists_of c.args.database in
     let j = justified_by k steps c.args.at step c.in-Some.reason c.requires.justified c.requires.at c.step-step.ensures c.in-Some.is in
-    resolve_false steps (c.args.at + 1) c.args.at left (clause_of k c.in-Some.reason) c.resolve.new.self.lits.items step.lit refl (ap (λ (s : Step). s.lit) (sym c.step-step.ensures)) c.requires.all j.1 c.in_ok-resolve.ensures.lits
+    resolve_false steps (c.args.at + 1) c.args.at left (clause_of k c.in-Some.reason) c.resolve.new.self.lits.items step.lit refl
+    (ap (λ (s : Step). s.lit) (sym c.step-step.ensures)) c.requires.all j.1 c.in_ok-resolve.ensures.lits
 
 pub returns-in_ok-resolve-clause-derived : goal.returns-in_ok-resolve-clause-derived
 returns-in_ok-resolve-clause-derived c = λ k agrees d.
@@ -25,7 +26,8 @@ returns-in_ok-resolve-clause-derived c = λ k agrees d.
     let e = c.negated.ensures ∙ ap (λ (s : Step). opposite s.lit) c.step-step.ensures in
     let has1 = subst (λ (l : List Lit). Contains l c.negated.result) c.as_slice.ensures.value (c.if-has.ensures.0 refl) in
     let has = subst (λ (l : Lit). Contains left l) e has1 in
-    derived_step k (lists_of c.args.database) steps c.args.at step c.in-Some.reason _ _ _ _ left c.resolve.new.self.lits.items c.step-step.ensures c.in-Some.is (agrees has) c.in_ok-resolve.ensures.lits c.in_ok-resolve.ensures.first c.in_ok-resolve.ensures.rest d
+    derived_step k (lists_of c.args.database) steps c.args.at step c.in-Some.reason _ _ _ _ left c.resolve.new.self.lits.items c.step-step.ensures
+    c.in-Some.is (agrees has) c.in_ok-resolve.ensures.lits c.in_ok-resolve.ensures.first c.in_ok-resolve.ensures.rest d
 
 pub returns-else-has-clause-all : goal.returns-else-has-clause-all
 returns-else-has-clause-all c =
@@ -33,4 +35,5 @@ returns-else-has-clause-all c =
     let left = c.args.resolvent.now.lits.items in
     let e = c.negated.ensures ∙ ap (λ (s : Step). opposite s.lit) c.step-step.ensures in
     skip_false steps (c.args.at + 1) c.args.at left refl c.requires.all
-    (λ h. false≢true (c.if-has.ensures.1 (subst (λ (l : List Lit). Contains l c.negated.result) (sym c.as_slice.ensures.value) (subst (λ (l : Lit). Contains left l) (sym e) h))))
+    (λ h. false≢true (c.if-has.ensures.1 (subst (λ (l : List Lit). Contains l c.negated.result) (sym c.as_slice.ensures.value)
+    (subst (λ (l : Lit). Contains left l) (sym e) h))))

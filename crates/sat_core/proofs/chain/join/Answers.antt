@@ -29,4 +29,5 @@ loop-other-preserved c =
     ]
 
 pub returns : goal.returns
-returns c = subst (λ l. IsJoined c.args.lits.now.items l c.args.but c.loop-other.lits.items) (take_all c.loop-other.other-index c.args.more.now (omega arith)) c.loop-other.invariant
+returns c = subst (λ l. IsJoined c.args.lits.now.items l c.args.but c.loop-other.lits.items)
+    (take_all c.loop-other.other-index c.args.more.now (omega arith)) c.loop-other.invariant

@@ -23,4 +23,5 @@ loop-other-preserved c =
     ]
 
 pub returns : goal.returns
-returns c = subst (λ l. IsWithout l c.args.lit c.loop-other.rest.items) (take_all c.loop-other.other-index c.args.lits.now (omega arith)) c.loop-other.invariant
+returns c = subst (λ l. IsWithout l c.args.lit c.loop-other.rest.items)
+    (take_all c.loop-other.other-index c.args.lits.now (omega arith)) c.loop-other.invariant

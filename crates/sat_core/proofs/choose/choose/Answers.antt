@@ -6,7 +6,8 @@ use Rattle.sat_core.proofs.Searching.{assumed_var, assumed_justifies, assumption
 use Rattle.sat_core.proofs.choose.choose.Goals as goal
 
 pub value-requires-clause-var : goal.value-requires-clause-var
-value-requires-clause-var c = assumed_var (length c.args.trail.now.places.items) c.args.database.assumed.now c.loop-place.place c.requires.assumed (omega arith)
+value-requires-clause-var c = assumed_var (length c.args.trail.now.places.items) c.args.database.assumed.now c.loop-place.place c.requires.assumed
+    (omega arith)
 
 pub returns-in-None : goal.returns-in-None
 returns-in-None c =

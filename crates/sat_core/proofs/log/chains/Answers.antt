@@ -15,10 +15,12 @@ chain-requires c =
     let d = c.index-derivations-place.result in
     let k = clause_lists added (take place learnt) [] in
     let h : place < length learnt = omega arith in
-    let x = subst (λ (y : Derivation). IsDerivation k y.first y.rest.items (get_or learnt place [])) (sym c.index-derivations-place.is) (c.requires.derived.each place d h) in
+    let x = subst (λ (y : Derivation). IsDerivation k y.first y.rest.items (get_or learnt place [])) (sym c.index-derivations-place.is)
+    (c.requires.derived.each place d h) in
     let small : length added + 0 < 2 ^ 64 = omega arith in
     subst (λ (l : List ℕ). AllHaveNumbers (length added) l d.first d.rest.items) (sym c.as_slice.ensures.value)
-    (derived_numbers added (take place learnt) [] c.loop-place.numbers.items d.first d.rest.items (get_or learnt place []) (omega (arith, length-take place learnt, c.loop-place.invariant.numbered.counted)) small x)
+    (derived_numbers added (take place learnt) [] c.loop-place.numbers.items d.first d.rest.items (get_or learnt place [])
+    (omega (arith, length-take place learnt, c.loop-place.invariant.numbered.counted)) small x)
 
 pub loop-place-preserved : goal.loop-place-preserved
 loop-place-preserved c =
@@ -39,12 +41,16 @@ loop-place-preserved c =
           let clause = e.clause ∙ w.as_slice-clause.ensures ∙ get_or_read learnt place w.index-learnt-place.result h w.index-learnt-place.is [] in
           let longer = w.log-is ∙ w.in_ok-push.ensures.ok in
           record {
-            numbered = chain_next added learnt assumed needed place _ numbers w.as_slice.result.now c.push-in-loop-place.new.self.items log c.if-needed-place.log w.in_ok-chain.field-0 c.args.derivations.now d c.requires.derived c.requires.needed h w.index-derivations-place.is (get_or_default needed place true false h2 ∙ w.if-needed-place.true) clause e.first e.rest w.as_slice.ensures.value (omega (arith, c.len.ensures)) c.in_ok-push-2.ensures.items longer inv.numbered;
+            numbered = chain_next added learnt assumed needed place _ numbers w.as_slice.result.now c.push-in-loop-place.new.self.items log
+                c.if-needed-place.log w.in_ok-chain.field-0 c.args.derivations.now d c.requires.derived c.requires.needed h w.index-derivations-place.is
+                (get_or_default needed place true false h2 ∙ w.if-needed-place.true) clause e.first e.rest w.as_slice.ensures.value
+                (omega (arith, c.len.ensures)) c.in_ok-push-2.ensures.items longer inv.numbered;
             short = omega (arith, ap length longer, length_push log w.in_ok-chain.field-0, inv.short);
           }
       | else-needed-place w ↦
           record {
-            numbered = skip_next added learnt assumed needed place _ numbers c.push-in-loop-place.new.self.items log c.if-needed-place.log (get_or_default needed place true false h2 ∙ w.if-needed-place.false) c.in_ok-push-2.ensures.items w.log-is inv.numbered;
+            numbered = skip_next added learnt assumed needed place _ numbers c.push-in-loop-place.new.self.items log c.if-needed-place.log
+                (get_or_default needed place true false h2 ∙ w.if-needed-place.false) c.in_ok-push-2.ensures.items w.log-is inv.numbered;
             short = omega (arith, ap length w.log-is, inv.short);
           }
     ]

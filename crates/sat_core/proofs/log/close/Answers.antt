@@ -11,7 +11,8 @@ loop-at-preserved-then-needed-at c =
     record {
       within = omega (arith, c.loop-at.invariant.within);
       last = all_needed_more old new c.args.last.now.first c.args.last.now.rest.items m.more c.loop-at.invariant.last;
-      each = needed_step old new c.args.derivations.now c.loop-at.at (c.loop-at.at - 1) c.index-derivations-at.result (omega arith) (omega (arith, c.loop-at.invariant.within)) c.index-derivations-at.is c.requires.before m c.loop-at.invariant.each;
+      each = needed_step old new c.args.derivations.now c.loop-at.at (c.loop-at.at - 1) c.index-derivations-at.result (omega arith)
+          (omega (arith, c.loop-at.invariant.within)) c.index-derivations-at.is c.requires.before m c.loop-at.invariant.each;
     }
 
 pub loop-at-preserved : goal.loop-at-preserved
@@ -21,5 +22,6 @@ loop-at-preserved c =
     record {
       within = omega (arith, c.loop-at.invariant.within);
       last = c.loop-at.invariant.last;
-      each = needed_skip needed c.args.derivations.now c.loop-at.at at (omega arith) (get_or_default needed at true false (omega arith) ∙ c.if-needed-at.false) c.loop-at.invariant.each;
+      each = needed_skip needed c.args.derivations.now c.loop-at.at at (omega arith)
+          (get_or_default needed at true false (omega arith) ∙ c.if-needed-at.false) c.loop-at.invariant.each;
     }

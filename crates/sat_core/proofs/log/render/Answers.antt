@@ -12,7 +12,8 @@ needed-requires-clause-before c = λ place none h.
 
 pub needed-requires-clause-last : goal.needed-requires-clause-last
 needed-requires-clause-last c =
-    derived_below c.args.added.now c.args.learnt.now c.args.assumed.now (length c.args.derivations.now) _ _ _ (omega (arith, c.requires.derived.same)) c.requires.last
+    derived_below c.args.added.now c.args.learnt.now c.args.assumed.now (length c.args.derivations.now) _ _ _
+    (omega (arith, c.requires.derived.same)) c.requires.last
 
 pub chain-requires : goal.chain-requires
 chain-requires c =
@@ -22,7 +23,8 @@ chain-requires c =
     let small : length added + length c.args.assumed.now < 2 ^ 64 = omega arith in
     let same : c.as_slice-2.result.now ≡ c.in_ok-log.field-0.numbers.items = cc in
     let len : length c.as_slice-2.result.now ≡ length c.args.learnt.now = ap length same ∙ n.counted in
-    derived_numbers added c.args.learnt.now c.args.assumed.now c.as_slice-2.result.now last.first last.rest.items [] (omega (arith, len)) small c.requires.last
+    derived_numbers added c.args.learnt.now c.args.assumed.now c.as_slice-2.result.now last.first last.rest.items []
+    (omega (arith, len)) small c.requires.last
 
 pub returns : goal.returns
 returns c =
@@ -30,4 +32,6 @@ returns c =
     let same : c.as_slice-2.result.now ≡ c.in_ok-log.field-0.numbers.items = cc in
     let need = subst (λ (l : List Bool). AllNeeded l last.first last.rest.items) (sym c.as_slice.ensures.value) c.in_ok-needed.ensures.last in
     let e = c.in_ok-end.ensures in
-    log_done c.args.added.now c.args.learnt.now c.args.assumed.now c.as_slice.result.now c.in_ok-log.field-0.numbers.items c.as_slice-2.result.now c.in_ok-log.field-0.log c.push.new.self c.in_ok-end.end last.first last.rest.items c.in_ok-log.ensures need c.requires.last e.clause e.first e.rest same c.in_ok-push.ensures.ok
+    log_done c.args.added.now c.args.learnt.now c.args.assumed.now c.as_slice.result.now c.in_ok-log.field-0.numbers.items c.as_slice-2.result.now
+    c.in_ok-log.field-0.log c.push.new.self c.in_ok-end.end last.first last.rest.items c.in_ok-log.ensures need c.requires.last e.clause e.first
+    e.rest same c.in_ok-push.ensures.ok

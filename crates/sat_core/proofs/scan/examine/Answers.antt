@@ -40,13 +40,16 @@ loop-lit-preserved c =
     elim c.match-value.branch [
       | in-Some-false w ↦
           subst (λ (o : Option Lit). SoFar steps places (take (i + 1) xs) o) (sym w.open-is)
-          (so_far-false steps places xs i x h r c.loop-lit.open (subst (λ (b : Bool). ValueIs steps places x (Some b)) w.in-Some-false.field-0-test w.in-Some-false.ensures) c.loop-lit.invariant)
+          (so_far-false steps places xs i x h r c.loop-lit.open
+          (subst (λ (b : Bool). ValueIs steps places x (Some b)) w.in-Some-false.field-0-test w.in-Some-false.ensures) c.loop-lit.invariant)
       | in-None+in-None-open w ↦
           subst (λ (o : Option Lit). SoFar steps places (take (i + 1) xs) o) (sym w.open-is)
-          (so_far-open steps places xs i x h r w.in-None.ensures (subst (λ (o : Option Lit). SoFar steps places (take i xs) o) w.in-None-open.is c.loop-lit.invariant))
+          (so_far-open steps places xs i x h r w.in-None.ensures
+          (subst (λ (o : Option Lit). SoFar steps places (take i xs) o) w.in-None-open.is c.loop-lit.invariant))
       | in-None+in-Some+else-not-same w ↦
           subst (λ (o : Option Lit). SoFar steps places (take (i + 1) xs) o) (sym w.open-is)
-          (so_far-same steps places xs i x h r w.in-Some.other (w.if-not-same.ensures.0 refl) (subst (λ (o : Option Lit). SoFar steps places (take i xs) o) w.in-Some.is c.loop-lit.invariant))
+          (so_far-same steps places xs i x h r w.in-Some.other (w.if-not-same.ensures.0 refl)
+          (subst (λ (o : Option Lit). SoFar steps places (take i xs) o) w.in-Some.is c.loop-lit.invariant))
     ]
 
 pub returns-in-None-open-2 : goal.returns-in-None-open-2

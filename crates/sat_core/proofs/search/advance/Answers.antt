@@ -9,7 +9,8 @@ choose-requires-clause-assumed c = within_same _ _ (map unit_clause c.args.datab
 pub refute-requires-clause-undecided : goal.refute-requires-clause-undecided
 refute-requires-clause-undecided c =
     let f = c.args.database in
-    none_decided f.added.now f.learnt.now f.assumed.now c.args.trail.now.steps.items c.args.trail.now.places.items c.in-Refuted.place c.requires.state.trail c.requires.state.justified c.in-Refuted.ensures.0 c.in-Refuted.ensures.1
+    none_decided f.added.now f.learnt.now f.assumed.now c.args.trail.now.steps.items c.args.trail.now.places.items c.in-Refuted.place
+    c.requires.state.trail c.requires.state.justified c.in-Refuted.ensures.0 c.in-Refuted.ensures.1
 
 pub model-requires-clause-within : goal.model-requires-clause-within
 model-requires-clause-within c = within_same _ _ c.args.database.added.now c.requires.state.vars c.requires.state.added_within
@@ -21,4 +22,8 @@ pub returns-in_ok-push-in-Next : goal.returns-in_ok-push-in-Next
 returns-in_ok-push-in-Next c =
     let f = c.args.database in
     let e = c.in_ok-push-in-Next.ensures in
-    record { done = pushed_state (length c.args.phases.now) f.added.now f.learnt.now f.assumed.now c.args.trail.now.steps.items c.push.new.self.steps.items c.args.trail.now.places.items c.push.new.self.places.items c.in-Next.step c.requires.state c.in-Next.ensures.2 e.ok e.trail e.vars }
+    record {
+      done = pushed_state (length c.args.phases.now) f.added.now f.learnt.now f.assumed.now c.args.trail.now.steps.items
+          c.push.new.self.steps.items c.args.trail.now.places.items c.push.new.self.places.items c.in-Next.step c.requires.state c.in-Next.ensures.2 e.ok
+          e.trail e.vars;
+    }

@@ -6,5 +6,6 @@ use Rattle.sat_core.proofs.search.model.Given as goal
 abbrev pub invariant-loop-var : goal.invariant-loop-var
 invariant-loop-var l = record {
   count : length l.values.items ≡ l.var;
-  reflects : (lit : Lit) → MadeTrue l.trail.steps.items (length l.trail.steps.items) lit → lit.var < l.var → get_or l.values.items lit.var false ≡ lit.positive;
+  reflects : (lit : Lit) → MadeTrue l.trail.steps.items
+      (length l.trail.steps.items) lit → lit.var < l.var → get_or l.values.items lit.var false ≡ lit.positive;
 }

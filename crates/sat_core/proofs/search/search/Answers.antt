@@ -6,7 +6,8 @@ pub propagate-requires-clause-added : goal.propagate-requires-clause-added
 propagate-requires-clause-added c = within_same _ _ c.args.added.now c.loop-trail.invariant.state.vars c.loop-trail.invariant.state.added_within
 
 pub propagate-requires-clause-learnt : goal.propagate-requires-clause-learnt
-propagate-requires-clause-learnt c = within_moved _ _ c.loop-trail.learnt.clauses.items c.as_slice.result.now c.loop-trail.invariant.state.vars c.as_slice.ensures.value c.loop-trail.invariant.state.learnt_within
+propagate-requires-clause-learnt c = within_moved _ _ c.loop-trail.learnt.clauses.items c.as_slice.result.now c.loop-trail.invariant.state.vars
+    c.as_slice.ensures.value c.loop-trail.invariant.state.learnt_within
 
 pub learn-requires-clause-state : goal.learn-requires-clause-state
 learn-requires-clause-state c =
@@ -14,8 +15,11 @@ learn-requires-clause-state c =
     let learnt = c.loop-trail.learnt.clauses.items in
     let p = c.propagate.ensures in
     let e : length c.propagate.new.phases ≡ length c.args.phases.now = omega (arith, c.propagate.auto.phases, inv.phases) in
-    let s = propagated_state (length c.args.phases.now) c.args.added.now learnt c.as_slice.result.now c.args.assumed.now c.loop-trail.trail.steps.items c.propagate.new.trail.steps.items c.loop-trail.trail.places.items c.propagate.new.trail.places.items inv.state c.as_slice.ensures.value p.trail p.justified p.vars in
-    state_moved (length c.args.phases.now) (length c.propagate.new.phases) c.args.added.now learnt learnt c.args.assumed.now c.propagate.new.trail.steps.items c.propagate.new.trail.places.items e refl s
+    let s = propagated_state (length c.args.phases.now) c.args.added.now learnt c.as_slice.result.now c.args.assumed.now
+    c.loop-trail.trail.steps.items c.propagate.new.trail.steps.items c.loop-trail.trail.places.items c.propagate.new.trail.places.items inv.state
+    c.as_slice.ensures.value p.trail p.justified p.vars in
+    state_moved (length c.args.phases.now) (length c.propagate.new.phases) c.args.added.now learnt learnt c.args.assumed.now
+    c.propagate.new.trail.steps.items c.propagate.new.trail.places.items e refl s
 
 pub returns-in_err-derivation-in-Some-clause-learnt : goal.returns-in_err-derivation-in-Some-clause-learnt
 returns-in_err-derivation-in-Some-clause-learnt c =
@@ -33,5 +37,8 @@ advance-requires-clause-state c =
     let learnt = c.loop-trail.learnt.clauses.items in
     let p = c.propagate.ensures in
     let e : length c.propagate.new.phases ≡ length c.args.phases.now = omega (arith, c.propagate.auto.phases, inv.phases) in
-    let s = propagated_state (length c.args.phases.now) c.args.added.now learnt c.as_slice.result.now c.args.assumed.now c.loop-trail.trail.steps.items c.propagate.new.trail.steps.items c.loop-trail.trail.places.items c.propagate.new.trail.places.items inv.state c.as_slice.ensures.value p.trail p.justified p.vars in
-    state_moved (length c.args.phases.now) (length c.propagate.new.phases) c.args.added.now learnt c.as_slice.result.now c.args.assumed.now c.propagate.new.trail.steps.items c.propagate.new.trail.places.items e c.as_slice.ensures.value s
+    let s = propagated_state (length c.args.phases.now) c.args.added.now learnt c.as_slice.result.now c.args.assumed.now
+    c.loop-trail.trail.steps.items c.propagate.new.trail.steps.items c.loop-trail.trail.places.items c.propagate.new.trail.places.items inv.state
+    c.as_slice.ensures.value p.trail p.justified p.vars in
+    state_moved (length c.args.phases.now) (length c.propagate.new.phases) c.args.added.now learnt c.as_slice.result.now c.args.assumed.now
+    c.propagate.new.trail.steps.items c.propagate.new.trail.places.items e c.as_slice.ensures.value s

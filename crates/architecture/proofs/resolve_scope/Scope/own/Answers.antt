@@ -4,4 +4,5 @@ use Rattle.architecture.proofs.resolve_scope.Scope.own.Goals as goal
 
 pub returns-in_ok-free_number-in-Connection : goal.returns-in_ok-free_number-in-Connection
 returns-in_ok-free_number-in-Connection c =
-    rw c.in-Connection.is (c.in_ok-free_number-in-Connection.ensures ∙ ap (resolving.place_among c.in-Connection.free.now) c.in_ok-target-in-Connection.ensures)
+    rw c.in-Connection.is (c.in_ok-free_number-in-Connection.ensures ∙ ap
+    (resolving.place_among c.in-Connection.free.now) c.in_ok-target-in-Connection.ensures)

@@ -62,7 +62,8 @@ records_are c =
     ∙ ap (λ (l : List Record). records_after l c.deref_mut-2.result.now c.args.before c.args.clause c.args.from c.args.to) c.deref_mut.ensures.value
     ∙ ap (λ (h : List Heads). records_after records h c.args.before c.args.clause c.args.from c.args.to) c.deref_mut-2.ensures.value in
     let len : length c.move_between.new.records ≡ c.self.inside.records.len =
-    ap length is ∙ (IsMoved-from_can records heads c.args.before c.args.clause c.args.from c.args.to c.requires.before.0 c.requires.before.1 (can_last c)).len
+    ap length is ∙ (IsMoved-from_can records heads c.args.before c.args.clause c.args.from c.args.to c.requires.before.0 c.requires.before.1
+    (can_last c)).len
     ∙ sym c.self.inside.records.ok.0 in
     take-written records c.move_between.new.records c.self.inside.records.len len (sym c.self.inside.records.ok.0) ∙ is
 
@@ -77,7 +78,8 @@ heads_are c =
     ∙ ap (λ (l : List Record). heads_after l c.deref_mut-2.result.now c.args.before c.args.clause c.args.from c.args.to) c.deref_mut.ensures.value
     ∙ ap (λ (h : List Heads). heads_after records h c.args.before c.args.clause c.args.from c.args.to) c.deref_mut-2.ensures.value in
     let len : length c.move_between.new.heads ≡ c.self.inside.heads.len =
-    ap length is ∙ (IsMoved-from_can records heads c.args.before c.args.clause c.args.from c.args.to c.requires.before.0 c.requires.before.1 (can_last c)).vars
+    ap length is ∙ (IsMoved-from_can records heads c.args.before c.args.clause c.args.from c.args.to c.requires.before.0 c.requires.before.1
+    (can_last c)).vars
     ∙ sym c.self.inside.heads.ok.0 in
     take-written heads c.move_between.new.heads c.self.inside.heads.len len (sym c.self.inside.heads.ok.0) ∙ is
 

@@ -7,4 +7,5 @@ use Rattle.decision_queue.proofs.queue.DecisionQueue.order_is_whole.Goals as goa
 pub returns : goal.returns
 returns c =
     subst (λ (xs : List ℕ). IsOrder xs) c.self.view_is
-    (order_of_all c.self.inside.links.items c.self.inside.first c.self.inside.last (order_of c.self.inside.links.items c.self.inside.first) c.self.invariant)
+    (order_of_all c.self.inside.links.items c.self.inside.first c.self.inside.last
+    (order_of c.self.inside.links.items c.self.inside.first) c.self.invariant)

@@ -4,7 +4,8 @@ use Rattle.clause_links.proofs.Calls.{take-written}
 use Rattle.clause_links.proofs.Members.{Cut}
 use Rattle.decision_queue.specs.declared.neighbours.Neighbours.{Neighbours}
 use Rattle.decision_queue.specs.Neighbours.{no_neighbours, neighbours_at, after_at, before_at, order_of, joined_pair, with_first, last_without, IsLinkedOrder}
-use Rattle.decision_queue.proofs.Orders.{first_there, before_within, after_within, first_within, cut_of, with_front, IsLinkedOrder-brought, brought_now, length-with_front, linked_order, order_is}
+use Rattle.decision_queue.proofs.Orders.{first_there, before_within, after_within, first_within, cut_of, with_front, IsLinkedOrder-brought, brought_now}
+use Rattle.decision_queue.proofs.Orders.{length-with_front, linked_order, order_is}
 use Rattle.decision_queue.proofs.queue.DecisionQueue.to_front.Goals as goal
 
 none_of : (o : Option ℕ) → ((x : ℕ) → o ≡ Some x → ⊥) → o ≡ None

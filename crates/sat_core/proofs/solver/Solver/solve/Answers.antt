@@ -15,4 +15,5 @@ returns-in_ok-units_log-in-Some-clause-unsat c =
 
 pub returns-in-None-clause-unsat : goal.returns-in-None-clause-unsat
 returns-in-None-clause-unsat c =
-    refuted c.args.self.now.vars (c.args.self.now.clauses ++ map unit_clause c.args.assumptions.now) c.decide.result c.derivations_refute.ensures c.decide.ensures.log
+    refuted c.args.self.now.vars (c.args.self.now.clauses ++ map unit_clause c.args.assumptions.now) c.decide.result c.derivations_refute.ensures
+    c.decide.ensures.log

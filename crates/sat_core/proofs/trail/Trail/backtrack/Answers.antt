@@ -13,5 +13,6 @@ loop-self-preserved-in-Some c =
     record {
       trail = IsTrail-pop rest places c.in-Some.step (subst (λ l. IsTrail l places) popped c.loop-self.invariant.trail);
       vars = length-set places _ None ∙ c.loop-self.invariant.vars;
-      steps = sym (take-append-le c.args.keep rest (c.in-Some.step ∷ []) (omega (arith, length_push rest c.in-Some.step))) ∙ ap (λ l. take c.args.keep l) (sym popped) ∙ c.loop-self.invariant.steps;
+      steps = sym (take-append-le c.args.keep rest (c.in-Some.step ∷ []) (omega (arith, length_push rest c.in-Some.step))) ∙ ap
+          (λ l. take c.args.keep l) (sym popped) ∙ c.loop-self.invariant.steps;
     }

@@ -5,7 +5,8 @@ use Rattle.sat_core.specs.Search.{IsTrail}
 use Rattle.sat_core.proofs.Trails.{IsTrail-empty}
 use Rattle.sat_core.proofs.trail.Trail.new.Goals as goal
 
-empty_trail : (steps : List Step) (places : List (Option ℕ)) (n : ℕ) → steps ≡ [] → places ≡ replicate n None → IsTrail steps places
+empty_trail : (steps : List Step) (places : List (Option ℕ)) (n : ℕ) → steps ≡ [] → places ≡ replicate n None
+    → IsTrail steps places
 empty_trail steps places n e h = rw (e, h) (IsTrail-empty n)
 
 pub returns-clause-trail : goal.returns-clause-trail

@@ -14,4 +14,5 @@ pub returns-in-Some : goal.returns-in-Some
 returns-in-Some c =
     let places = c.args.self.now.places.items in
     let read = get_or_read places (c.args.lit.var) c.index.result.now c.requires.var c.index.ensures None in
-    value_at c.args.self.now.steps.items places c.args.lit c.in-Some.place c.index-in-Some.result.now c.requires.trail (sym read ∙ c.in-Some.is) c.index-in-Some.ensures
+    value_at c.args.self.now.steps.items places c.args.lit c.in-Some.place c.index-in-Some.result.now c.requires.trail
+    (sym read ∙ c.in-Some.is) c.index-in-Some.ensures
