@@ -14,22 +14,23 @@ use Rattle.oss_syntax.specs.declared.refinement.RefinementItem.{RefinementItem}
 use Rattle.oss_syntax.specs.declared.refinement.RefinementItem.TheVariants as refinement
 use Rattle.architecture.specs.declared.first_form_interfaces.Declared.{Declared}
 use Rattle.architecture.specs.declared.first_form_subs.SubTables.{SubTables}
-use Rattle.architecture.specs.declared.spec.Spec.{Spec}
-use Rattle.architecture.specs.declared.spec.Component.{Component}
-use Rattle.architecture.specs.declared.port.OwnPort.{OwnPort}
-use Rattle.architecture.specs.declared.item.Item.{Item}
-use Rattle.architecture.specs.declared.sub.Sub.{Sub}
-use Rattle.architecture.specs.declared.wire.Wire.{Wire}
-use Rattle.architecture.specs.declared.wire.Target.{Target}
-use Rattle.architecture.specs.Architecture.{ports_of, free_targets, free_place}
+use Rattle.spec_model.specs.declared.spec.Spec.{Spec}
+use Rattle.spec_model.specs.declared.spec.Component.{Component}
+use Rattle.spec_model.specs.declared.port.OwnPort.{OwnPort}
+use Rattle.spec_model.specs.declared.item.Item.{Item}
+use Rattle.spec_model.specs.declared.sub.Sub.{Sub}
+use Rattle.spec_model.specs.declared.wire.Wire.{Wire}
+use Rattle.spec_model.specs.declared.wire.Target.{Target}
+use Rattle.spec_model.specs.Architecture.{ports_of, free_targets, free_place}
 use Rattle.architecture.specs.FirstForm as form
 use Rattle.architecture.specs.Tables.{declared_in, AreTables, place_in}
 use Rattle.architecture.proofs.Lookups.{looks_up, places_are}
 use Rattle.architecture.specs.Stands.{target_of, own_port, own_sub, own_wire, own_item, of_wire, KeptWire, AreMadeComponents, IsMadeComponent, items_of}
 use Rattle.architecture.specs.Stands.{items_from, Stands}
-use Rattle.architecture.specs.Resolving.{first, declared, port_count, item_target, place_among, free_among, free_in, IsMade, IsLeaf, AreLeaves, AreAfter}
+use Rattle.architecture.specs.Resolving.{first, declared, port_count, item_target, place_among, free_in, IsMade, IsLeaf, AreLeaves, AreAfter}
 use Rattle.architecture.specs.Resolving.{AreWires, IsMadeSystem}
-use Rattle.architecture.proofs.FreeOrder.{free_targets_are}
+use Rattle.spec_model.specs.FreeRows.{free_among}
+use Rattle.spec_model.proofs.FreeTargets.{free_targets_are}
 
 -- The specification that is made stands for the tree.
 

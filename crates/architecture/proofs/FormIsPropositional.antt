@@ -16,21 +16,21 @@ use Rattle.oss_syntax.specs.declared.interface.InterfaceItem.TheVariants as inte
 use Rattle.oss_syntax.specs.declared.refinement.RefinementItem.{RefinementItem}
 use Rattle.oss_syntax.specs.declared.refinement.RefinementItem.TheVariants as refinement
 use Rattle.oss_syntax.specs.declared.component.TreeComponent.{TreeComponent}
-use Rattle.architecture.specs.declared.spec.Spec.{Spec}
-use Rattle.architecture.specs.declared.spec.Component.{Component}
-use Rattle.architecture.specs.declared.port.OwnPort.{OwnPort}
-use Rattle.architecture.specs.declared.contract.Contract.{Contract}
-use Rattle.architecture.specs.declared.sub.Sub.{Sub}
-use Rattle.architecture.specs.declared.wire.Wire.{Wire}
+use Rattle.spec_model.specs.declared.spec.Spec.{Spec}
+use Rattle.spec_model.specs.declared.spec.Component.{Component}
+use Rattle.spec_model.specs.declared.port.OwnPort.{OwnPort}
+use Rattle.spec_model.specs.declared.contract.Contract.{Contract}
+use Rattle.spec_model.specs.declared.sub.Sub.{Sub}
+use Rattle.spec_model.specs.declared.wire.Wire.{Wire}
 use Rattle.architecture.specs.declared.first_form_interfaces.Declared.{Declared}
-use Rattle.architecture.specs.Architecture.{ports_of, contracts_of, subs_of, wires_of, sub_component, free_targets, free_place, same_target, IsWellFormed}
-use Rattle.architecture.specs.Architecture.{FallsAlongSubs}
+use Rattle.spec_model.specs.Architecture.{ports_of, contracts_of, subs_of, wires_of, sub_component, free_targets, free_place, same_target, IsWellFormed}
+use Rattle.spec_model.specs.Architecture.{FallsAlongSubs}
 use Rattle.architecture.specs.Names.{has, are_different}
 use Rattle.architecture.specs.FirstForm.{ports, is_interface, is_formula, is_item, is_sub, is_refinement_item, refinement_items, sub_names}
 use Rattle.architecture.specs.FirstForm.{component_names, declared_by, declared_by_sub, IsFirstForm}
 use Rattle.architecture.specs.Stands.{Stands, place_of, own_target, sub_target, formula_of, own_port, own_contract, of_contract, own_sub, own_wire}
 use Rattle.architecture.specs.Stands.{of_wire, IsMadeComponent, AreMadeComponents}
-use Rattle.architecture.specs.Propositional.{IsPropositionalSource, IsPropositionalSpec}
+use Rattle.spec_model.specs.Propositional.{IsPropositionalSource, IsPropositionalSpec}
 use Rattle.architecture.specs.Laws.{FirstFormIsPropositional}
 use Rattle.architecture.proofs.Positions.{any-within}
 use Rattle.architecture.proofs.Found.{found_at, holds_at}

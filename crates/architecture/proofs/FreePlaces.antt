@@ -15,20 +15,20 @@ use Rattle.oss_syntax.specs.declared.refinement.RefinementItem.{RefinementItem}
 use Rattle.oss_syntax.specs.declared.refinement.RefinementItem.TheVariants as refinement
 use Rattle.oss_syntax.specs.declared.component.TreeComponent.{TreeComponent}
 use Rattle.typed_ltl.specs.Formulas.{Ltl}
-use Rattle.architecture.specs.declared.spec.Spec.{Spec}
-use Rattle.architecture.specs.declared.spec.Component.{Component}
-use Rattle.architecture.specs.declared.port.OwnPort.{OwnPort}
-use Rattle.architecture.specs.declared.sub.Sub.{Sub}
-use Rattle.architecture.specs.declared.wire.Wire.{Wire}
-use Rattle.architecture.specs.declared.wire.Target.{Target}
+use Rattle.spec_model.specs.declared.spec.Spec.{Spec}
+use Rattle.spec_model.specs.declared.spec.Component.{Component}
+use Rattle.spec_model.specs.declared.port.OwnPort.{OwnPort}
+use Rattle.spec_model.specs.declared.sub.Sub.{Sub}
+use Rattle.spec_model.specs.declared.wire.Wire.{Wire}
+use Rattle.spec_model.specs.declared.wire.Target.{Target}
 use Rattle.architecture.specs.declared.first_form_interfaces.Declared.{Declared}
-use Rattle.architecture.specs.Architecture.{ports_of, subs_of, wires_of, ports_at, sub_component, target, targets_at, all_ports, same_sub, same_target}
-use Rattle.architecture.specs.Architecture.{connection, free_targets, free_place}
+use Rattle.spec_model.specs.Architecture.{ports_of, subs_of, wires_of, ports_at, sub_component, target, targets_at, all_ports, same_sub, same_target}
+use Rattle.spec_model.specs.Architecture.{connection, free_targets, free_place}
 use Rattle.architecture.specs.Names.{has, are_different}
 use Rattle.architecture.specs.FirstForm.{ports, inputs, outputs, contracts, is_interface, is_target, is_source, is_refinement_item, sub_names}
 use Rattle.architecture.specs.FirstForm.{component_names, declared_by, declared_by_sub, interface_of_sub}
 use Rattle.architecture.specs.Stands.{place_of, own_target, sub_target, target_of, formula_of, own_sub, own_wire, of_wire, truth_of, AreMadeComponents}
-use Rattle.architecture.proofs.Targets.{same_target_is, same_target_itself}
+use Rattle.spec_model.proofs.Targets.{same_target_is, same_target_itself}
 use Rattle.architecture.proofs.Positions.{any-within}
 use Rattle.architecture.proofs.Found.{found_at, none_found, any-filter, any-numbers, any-flat_numbers}
 use Rattle.architecture.proofs.NamePlaces.{same_place, has_input, has_output, both_ways}

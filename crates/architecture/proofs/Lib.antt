@@ -7,8 +7,6 @@ pub mod Building
 pub mod Ends
 pub mod Formulas
 pub mod Counting
-pub mod Targets
-pub mod Free
 pub mod Gathered
 pub mod Found
 pub mod NamePlaces
@@ -16,6 +14,4 @@ pub mod Propositions
 pub mod Standing
 pub mod FreePlaces
 pub mod FormIsPropositional
-pub mod FreeOrder
 pub mod Assembly
-pub mod FreeShown

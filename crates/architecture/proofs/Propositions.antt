@@ -7,12 +7,12 @@ use Rattle.oss_syntax.specs.Expressions.{Tree, Name, Dotted, Numeral, Truth, Bra
 use Rattle.oss_syntax.specs.declared.expression.PrefixWord.TheVariants as prefix
 use Rattle.oss_syntax.specs.declared.expression.BinaryWord.{BinaryWord}
 use Rattle.oss_syntax.specs.declared.expression.BinaryWord.TheVariants as binary
-use Rattle.architecture.specs.declared.wire.Source.{Source}
-use Rattle.architecture.specs.declared.wire.Source.TheVariants as source
-use Rattle.architecture.specs.Architecture.{IsStateSource}
-use Rattle.architecture.specs.Expressions.{IsState, ReadsBelow}
+use Rattle.spec_model.specs.declared.wire.Source.{Source}
+use Rattle.spec_model.specs.declared.wire.Source.TheVariants as source
+use Rattle.spec_model.specs.Architecture.{IsStateSource}
+use Rattle.spec_model.specs.Expressions.{IsState, ReadsBelow}
 use Rattle.architecture.specs.FirstForm.{is_plain, is_connective}
-use Rattle.architecture.specs.Propositional.{IsPropositional, IsPropositionalSource}
+use Rattle.spec_model.specs.Propositional.{IsPropositional, IsPropositionalSource}
 use Rattle.architecture.specs.Stands.{formula_of, between, truth, truth_of}
 
 -- The formulas of plain expressions are propositional.

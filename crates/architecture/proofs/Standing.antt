@@ -13,10 +13,10 @@ use Rattle.oss_syntax.specs.declared.interface.InterfaceItem.TheVariants as inte
 use Rattle.oss_syntax.specs.declared.refinement.RefinementItem.{RefinementItem}
 use Rattle.oss_syntax.specs.declared.refinement.RefinementItem.TheVariants as refinement
 use Rattle.oss_syntax.specs.declared.component.TreeComponent.{TreeComponent}
-use Rattle.architecture.specs.declared.spec.Spec.{Spec}
-use Rattle.architecture.specs.declared.spec.Component.{Component}
-use Rattle.architecture.specs.declared.sub.Sub.{Sub}
-use Rattle.architecture.specs.Architecture.{ports_of, subs_of, sub_component, ports_at}
+use Rattle.spec_model.specs.declared.spec.Spec.{Spec}
+use Rattle.spec_model.specs.declared.spec.Component.{Component}
+use Rattle.spec_model.specs.declared.sub.Sub.{Sub}
+use Rattle.spec_model.specs.Architecture.{ports_of, subs_of, sub_component, ports_at}
 use Rattle.architecture.specs.Names.{has}
 use Rattle.architecture.specs.FirstForm.{ports, inputs, is_interface, refinement_items, sub_names, subs, sub_of as declared_sub, component_names}
 use Rattle.architecture.specs.FirstForm.{interface_named, interface_of_sub}

@@ -1,10 +1,10 @@
 -- A law of trees of the first form.
 use Rattle.std.specs.Prelude.{ℕ, List}
 use Rattle.oss_syntax.specs.declared.component.TreeComponent.{TreeComponent}
-use Rattle.architecture.specs.declared.spec.Spec.{Spec}
+use Rattle.spec_model.specs.declared.spec.Spec.{Spec}
 use Rattle.architecture.specs.FirstForm.{FirstForm}
 use Rattle.architecture.specs.Stands.{Stands}
-use Rattle.architecture.specs.Propositional.{IsPropositionalSpec}
+use Rattle.spec_model.specs.Propositional.{IsPropositionalSpec}
 
 -- What a tree of the first form stands for is a specification over truth values: it is well formed, its
 -- ports are boolean, and its formulas and connections are propositional.

@@ -1,9 +1,6 @@
-pub mod Expressions
-pub mod Architecture
 pub mod Names
 pub mod FirstForm
 pub mod Tables
 pub mod Stands
 pub mod Resolving
-pub mod Propositional
 pub mod Laws

@@ -1,7 +1,7 @@
 -- Serves proofs only: what the tables of names tell, from which a specification is made.
-use Rattle.std.specs.Prelude.{◌≡◌, ℕ, ◌+◌, Bool, not, cond, nat_eq, ◌&&◌, List, [], ◌∷◌, ◌++◌, length, map}
-use Rattle.std.specs.Prelude.{filter_map, slice_get, Option, Some, None, option_map, take}
-use Rattle.std.specs.List.{position_or_len, list_any, range_with_len, filter}
+use Rattle.std.specs.Prelude.{◌≡◌, ℕ, ◌+◌, cond, nat_eq, List, [], ◌∷◌, ◌++◌, length, map, filter_map, slice_get}
+use Rattle.std.specs.Prelude.{Option, Some, None, take}
+use Rattle.std.specs.List.{position_or_len}
 use Rattle.std.specs.Option.{option_map_or}
 use Rattle.oss_base.specs.declared.ids.SubId.{SubId}
 use Rattle.oss_base.specs.declared.place.Place.{Place}
@@ -10,10 +10,10 @@ use Rattle.port_types.specs.declared.types.PortId.{PortId}
 use Rattle.oss_syntax.specs.declared.words.Word.{Word}
 use Rattle.oss_syntax.specs.declared.words.PartWord.{PartWord}
 use Rattle.oss_base.specs.declared.ids.ComponentId.{ComponentId}
-use Rattle.architecture.specs.declared.item.Item.{Item}
-use Rattle.architecture.specs.declared.sub.Sub.{Sub}
-use Rattle.architecture.specs.declared.wire.Wire.{Wire}
-use Rattle.architecture.specs.declared.spec.Component.{Component}
+use Rattle.spec_model.specs.declared.item.Item.{Item}
+use Rattle.spec_model.specs.declared.sub.Sub.{Sub}
+use Rattle.spec_model.specs.declared.wire.Wire.{Wire}
+use Rattle.spec_model.specs.declared.spec.Component.{Component}
 use Rattle.oss_syntax.specs.declared.component.TreeComponent.{TreeComponent}
 use Rattle.oss_syntax.specs.declared.refinement.TargetTree.{TargetTree}
 use Rattle.oss_syntax.specs.Expressions.{Tree}
@@ -30,11 +30,9 @@ use Rattle.architecture.specs.declared.first_form_subs.SubTables.{SubTables}
 use Rattle.architecture.specs.declared.resolve_scope.Scope.{Scope}
 use Rattle.architecture.specs.declared.resolve_scope.Scope.TheVariants as scope
 use Rattle.architecture.specs.declared.text_places.Cursor.{Cursor}
-use Rattle.architecture.specs.declared.wire.Target.{Target}
-use Rattle.architecture.specs.Architecture.{target, same_target, port_at}
-use Rattle.architecture.specs.declared.spec.Spec.{Spec}
-use Rattle.architecture.specs.declared.port.OwnPort.{OwnPort}
-use Rattle.architecture.specs.declared.port.FreePort.{FreePort}
+use Rattle.spec_model.specs.declared.wire.Target.{Target}
+use Rattle.spec_model.specs.Architecture.{same_target}
+use Rattle.spec_model.specs.FreeRows.{free_among}
 use Rattle.architecture.specs.Stands.{place_of, own_target, sub_target, target_of, part_of, KeptContract}
 use Rattle.architecture.specs.Stands.{kept_formula, Kept, kept, KeptWire, own_port, own_contract, own_sub}
 use Rattle.architecture.specs.Stands.{own_wire, of_contract, of_wire}
@@ -55,19 +53,6 @@ abbrev pub sub_in : Scope → List ℕ → List ℕ → ℕ
 sub_in (scope.Contract ports) sub port = length ports.now
 sub_in (scope.Connection own subs free) sub port =
     place_among free.now (sub_target subs.now.names (declared_in subs.now) sub port)
-
--- The ports of a component and of its subcomponents, by their numbers of ports, from subcomponent k on.
-
-abbrev pub row : Option SubId → ℕ → List Target
-row sub count = map (target sub) (range_with_len 0 count)
-
-abbrev pub rows : ℕ → List ℕ → List Target
-rows k [] = []
-rows k (count ∷ counts) = row (Some (record { 0 = k })) count ++ rows (k + 1) counts
-
--- the port is none of these targets
-abbrev pub is_unconnected : List Target → Target → Bool
-is_unconnected connected t = not (list_any (same_target t) connected)
 
 -- the cursor stands at its place in the text
 abbrev pub IsAt : List ℕ → Cursor → Type 0
@@ -108,27 +93,6 @@ joined connective.And f g = form.And f g
 joined connective.Or f g = form.Or f g
 joined connective.Implies f g = form.Implies f g
 joined connective.Iff f g = form.Iff f g
-
--- a target as a pair of numbers
-abbrev pub key : Target → ℕ × ℕ
-key t = (option_map_or (λ (sub : SubId). sub.0 + 1) t.sub 0, t.port.0)
-
-abbrev pub same_key : ℕ × ℕ → ℕ × ℕ → Bool
-same_key a b = nat_eq a.0 b.0 && nat_eq a.1 b.1
-
-abbrev pub has_key : List (ℕ × ℕ) → Target → Bool
-has_key keys t = list_any (same_key (key t)) keys
-
-abbrev pub lacks_key : List (ℕ × ℕ) → Target → Bool
-lacks_key keys t = not (has_key keys t)
-
--- the ports of a component with so many own ports and subcomponents with so many ports, and those of
--- them that are none of the targets
-abbrev pub ports_among : ℕ → List ℕ → List Target
-ports_among own counts = row None own ++ rows 0 counts
-
-abbrev pub free_among : ℕ → List ℕ → List Target → List Target
-free_among own counts connected = filter (is_unconnected connected) (ports_among own counts)
 
 -- the parts of a component
 
@@ -210,8 +174,3 @@ pub record IsMadeSystem (names : List (List ℕ)) (own : Declared) (tables : Sub
   pub interface : IsMade c made
   pub subs : made.subs ≡ filter_map (own_sub names) (refinement_items c)
   pub wires : AreWires own tables made.subs (refinement_items c) made.wires
-
--- a port as it is shown, if it is there
-abbrev pub free_port : Spec → ComponentId → Target → Option FreePort
-free_port spec c t =
-    option_map (λ (port : OwnPort). record { sub = t.sub; name = port.name; kind = port.kind }) (port_at spec c t)

@@ -32,18 +32,18 @@ use Rattle.oss_syntax.specs.declared.refinement.TargetTree.TheVariants as target
 use Rattle.oss_syntax.specs.declared.refinement.RefinementItem.{RefinementItem}
 use Rattle.oss_syntax.specs.declared.refinement.RefinementItem.TheVariants as refinement
 use Rattle.oss_syntax.specs.declared.component.TreeComponent.{TreeComponent}
-use Rattle.architecture.specs.declared.spec.Spec.{Spec}
-use Rattle.architecture.specs.declared.spec.Component.{Component}
-use Rattle.architecture.specs.declared.port.OwnPort.{OwnPort}
-use Rattle.architecture.specs.declared.contract.Contract.{Contract}
-use Rattle.architecture.specs.declared.contract.Uses.{Uses}
-use Rattle.architecture.specs.declared.sub.Sub.{Sub}
-use Rattle.architecture.specs.declared.item.Item.{Item}
-use Rattle.architecture.specs.declared.wire.Wire.{Wire}
-use Rattle.architecture.specs.declared.wire.Target.{Target}
-use Rattle.architecture.specs.declared.wire.Source.{Source}
-use Rattle.architecture.specs.declared.wire.Source.TheVariants as source
-use Rattle.architecture.specs.Architecture.{free_place, target}
+use Rattle.spec_model.specs.declared.spec.Spec.{Spec}
+use Rattle.spec_model.specs.declared.spec.Component.{Component}
+use Rattle.spec_model.specs.declared.port.OwnPort.{OwnPort}
+use Rattle.spec_model.specs.declared.contract.Contract.{Contract}
+use Rattle.spec_model.specs.declared.contract.Uses.{Uses}
+use Rattle.spec_model.specs.declared.sub.Sub.{Sub}
+use Rattle.spec_model.specs.declared.item.Item.{Item}
+use Rattle.spec_model.specs.declared.wire.Wire.{Wire}
+use Rattle.spec_model.specs.declared.wire.Target.{Target}
+use Rattle.spec_model.specs.declared.wire.Source.{Source}
+use Rattle.spec_model.specs.declared.wire.Source.TheVariants as source
+use Rattle.spec_model.specs.Architecture.{free_place, target}
 use Rattle.architecture.specs.declared.first_form_interfaces.Declared.{Declared}
 use Rattle.architecture.specs.FirstForm.{ports as ports_in, refinement_items, sub_names, component_names}
 use Rattle.architecture.specs.FirstForm.{declared_by, declared_by_sub, FirstForm}

@@ -7,14 +7,13 @@ ghost use Rattle.typed_ltl.specs.Formulas.{meaning};
 ghost use Rattle.architecture.specs.Stands as stands;
 ghost use Rattle.architecture.specs.Resolving as resolving;
 
-use crate::contract::{Contract, Contracts, Uses};
 use crate::names::NameTable;
-use crate::port::{OwnPort, OwnPorts};
 use crate::resolve_formula::formula;
 use crate::resolve_scope::Scope;
 use crate::resolve_uses::uses;
 use oss_syntax::{Expr, InterfaceItem, Word};
 use port_types::{NoMemory, PortType};
+use spec_model::{Contract, Contracts, OwnPort, OwnPorts, Uses};
 use std::alloc::Global;
 use typed_ltl::Formula;
 

@@ -8,12 +8,12 @@ ghost use Rattle.architecture.specs.Tables.{declared_in};
 
 use crate::first_form_interfaces::Declared;
 use crate::first_form_subs::SubTables;
-use crate::item::{Item, ItemParts, Items};
 use crate::resolve_scope::place_in;
 use crate::text_places::Cursor;
 use oss_base::{ComponentId, ContractId, SubId};
 use oss_syntax::{PartWord, RefinementItem, Word};
 use port_types::NoMemory;
+use spec_model::{Item, ItemParts, Items};
 use std::alloc::Global;
 
 /// The place of a contract among those of a subcomponent.

@@ -13,11 +13,10 @@ use crate::names::NameTable;
 use crate::resolve_formula::formula;
 use crate::resolve_scope::{Scope, place_in, target_of};
 use crate::resolve_uses::uses;
-use crate::sub::{Sub, Subs};
-use crate::wire::{Source, Target, Wire, Wires};
 use oss_base::ComponentId;
 use oss_syntax::{Expr, RefinementItem, TargetTree};
 use port_types::NoMemory;
+use spec_model::{Source, Sub, Subs, Target, Wire, Wires};
 use std::alloc::Global;
 
 /// Puts the subcomponent that an item declares, if it does, where these are the names of components.

@@ -1,7 +1,7 @@
 //! What names mean where they are resolved: places among own ports or in the free order.
 
 ghost use Rattle.std.specs.Prelude.{◌≡◌, IfOk, position};
-ghost use Rattle.architecture.specs.Architecture.{same_target};
+ghost use Rattle.spec_model.specs.Architecture.{same_target};
 ghost use Rattle.architecture.specs.Tables.{declared_in};
 ghost use Rattle.architecture.specs.Stands as stands;
 ghost use Rattle.architecture.specs.Resolving as resolving;
@@ -9,10 +9,10 @@ ghost use Rattle.architecture.specs.Resolving as resolving;
 use crate::first_form_interfaces::Declared;
 use crate::first_form_subs::SubTables;
 use crate::names::NameTable;
-use crate::wire::Target;
 use oss_base::SubId;
 use oss_syntax::{TargetTree, Word};
 use port_types::{NoMemory, PortId};
+use spec_model::Target;
 
 /// What the names in an expression stand for.
 #[derive(Clone, Copy)]

@@ -301,7 +301,7 @@ Valve <open >flow; tight: T size 1, >10 size 3 1x1 1x0
     );
     assert_eq!(rt; spec.system, ComponentId(0));
     let mut names = String::new(alloc);
-    for free in spec.free_ports(alloc, spec.system)?.as_slice() {
+    for free in spec.free_ports(spec.system)?.as_slice() {
         if let Some(SubId(sub)) = free.sub {
             names.push_str(format!(in alloc; "{}.", sub)?.as_str())?;
         }
@@ -309,8 +309,8 @@ Valve <open >flow; tight: T size 1, >10 size 3 1x1 1x0
         names.push_str(" ")?;
     }
     assert_eq!(rt; names.as_str(), "cmd 0.flow 1.flow ");
-    assert_eq!(rt; spec.free_ports(alloc, ComponentId(1))?.len(), 2);
-    assert_eq!(rt; spec.free_ports(alloc, ComponentId(2))?.len(), 0);
+    assert_eq!(rt; spec.free_ports(ComponentId(1))?.len(), 2);
+    assert_eq!(rt; spec.free_ports(ComponentId(2))?.len(), 0);
     Ok(())
 }
 

@@ -3,7 +3,7 @@
 ghost use Rattle.std.specs.Prelude.{◌≡◌, ◌∷◌, [], IfOk, IfErr, Some, map, filter_map, slice_get, bytes_eq, true};
 ghost use Rattle.std.specs.List.{list_all};
 ghost use Rattle.oss_syntax.specs.declared.component.TreeComponent.{TreeComponent as Part};
-ghost use Rattle.architecture.specs.declared.sub.Sub.{Sub as Instance};
+ghost use Rattle.spec_model.specs.declared.sub.Sub.{Sub as Instance};
 ghost use Rattle.architecture.specs.FirstForm as form;
 ghost use Rattle.architecture.specs.Names.{are_different};
 ghost use Rattle.architecture.specs.Tables.{declared_in};
@@ -15,16 +15,13 @@ use crate::first_form_interfaces::{Declared, all_declared, component_names};
 use crate::first_form_refinement::{RefinementName, names_in};
 use crate::first_form_subs::SubTables;
 use crate::names::NameTable;
-use crate::resolve_free::free_ports_of;
 use crate::resolve_interface::{own_contracts, own_ports};
 use crate::resolve_items::refined_items;
 use crate::resolve_refinement::{own_subs, own_wires, targets_of};
-use crate::spec::{Component, Components, Spec};
-use crate::sub::{Sub, Subs};
-use crate::wire::Wires;
 use oss_base::{ComponentId, Fault, FaultKind, Place, Stop};
 use oss_syntax::{RefinementItem, SpecTree, TreeComponent};
 use port_types::NoMemory;
+use spec_model::{Component, Components, Spec, Sub, Subs, Wires, undriven_targets};
 use sqlite_items::at;
 use std::alloc::Global;
 
@@ -124,7 +121,7 @@ fn system_wires(
 {
     let counts = port_counts(alloc, tables.interfaces.as_slice(), subs)?;
     let targets = targets_of(alloc, own, tables, items)?;
-    let free = free_ports_of(
+    let free = undriven_targets(
         alloc,
         own.ports.len(),
         counts.as_slice(),

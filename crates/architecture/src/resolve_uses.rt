@@ -6,11 +6,11 @@ ghost use Rattle.oss_syntax.specs.Expressions.{tree};
 ghost use Rattle.architecture.specs.Stands as stands;
 ghost use Rattle.architecture.specs.Resolving as resolving;
 
-use crate::contract::{PortUses, Uses};
 use crate::resolve_scope::Scope;
 use indexmap::IndexMap;
 use oss_syntax::{Expr, PortWord};
 use port_types::{NoMemory, PortId};
+use spec_model::{PortUses, Uses};
 use std::alloc::Global;
 use std::marker::Model;
 

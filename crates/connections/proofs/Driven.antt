@@ -7,18 +7,18 @@ use Rattle.std.specs.List.{range_with_len, flat_map, filter, find, position_or_l
 use Rattle.std.specs.Option.{option_map_or}
 use Rattle.oss_base.specs.declared.ids.ComponentId.{ComponentId}
 use Rattle.oss_base.specs.declared.ids.SubId.{SubId}
-use Rattle.architecture.specs.declared.spec.Spec.{Spec}
-use Rattle.architecture.specs.declared.sub.Sub.{Sub}
-use Rattle.architecture.specs.declared.wire.Wire.{Wire}
-use Rattle.architecture.specs.declared.wire.Target.{Target}
-use Rattle.architecture.specs.Architecture.{ports_of, ports_at, subs_of, wires_of, target, targets_at, all_ports, same_target, connection, free_targets}
-use Rattle.architecture.specs.Architecture.{free_place}
+use Rattle.spec_model.specs.declared.spec.Spec.{Spec}
+use Rattle.spec_model.specs.declared.sub.Sub.{Sub}
+use Rattle.spec_model.specs.declared.wire.Wire.{Wire}
+use Rattle.spec_model.specs.declared.wire.Target.{Target}
+use Rattle.spec_model.specs.Architecture.{ports_of, ports_at, subs_of, wires_of, target, targets_at, all_ports, same_target, connection, free_targets}
+use Rattle.spec_model.specs.Architecture.{free_place}
 use Rattle.connections.specs.declared.driving.Driver.{Driver}
 use Rattle.connections.specs.declared.driving.Driver.TheVariants as driver
 use Rattle.connections.specs.Drivers.{first_place, first_wire, driver_of, port_rows, driver_rows}
 use Rattle.connections.specs.Tables.{port_counts, blank, row_of, cell_with_wire, row_with_wire, rows_with_wire, rows_with_wires, vacant, vacant_rows}
 use Rattle.connections.specs.Tables.{drivers_of_row, drivers_of_rows}
-use Rattle.connections.proofs.Targets.{same_target_itself, other_target}
+use Rattle.spec_model.proofs.Targets.{same_target_itself, other_target}
 
 -- The tables of drivers are what the definitions say.
 

@@ -2,5 +2,4 @@ pub mod Tells
 pub mod States
 pub mod Substituted
 pub mod Rows
-pub mod Targets
 pub mod Driven

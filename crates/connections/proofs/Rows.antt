@@ -1,7 +1,7 @@
 use Rattle.std.proofs.Common.{◌≡◌, ℕ, zero, suc, ◌+◌, ◌<◌, ◌≤◌, List, [], ◌∷◌, ◌++◌, length, take, get_or, set, slice_get, Option, Some, None, refl, sym}
 use Rattle.std.proofs.Common.{ap, ◌∙◌, arith}
 use Rattle.std.proofs.lemmas.List.{take_more, length-take-le}
-use Rattle.architecture.specs.declared.wire.Wire.{Wire}
+use Rattle.spec_model.specs.declared.wire.Wire.{Wire}
 use Rattle.connections.specs.declared.driving.Driver.TheVariants as driver
 use Rattle.connections.specs.Tables.{row_of, row_with_wire, rows_with_wire, rows_with_wires, vacant, drivers_of_row, drivers_of_rows, vacant_rows}
 

@@ -4,7 +4,7 @@ use Rattle.typed_ltl.specs.Formulas.{Number, Choice, Proposition, Ltl}
 use Rattle.typed_ltl.specs.Formulas as form
 use Rattle.typed_ltl.specs.Traces.{Assignment, Trace}
 use Rattle.typed_ltl.specs.Truth.{Holds, number_value, choice_name, proposition_truth}
-use Rattle.architecture.specs.Expressions.{IsState, IsStateNumber, IsStateChoice, IsStateTest}
+use Rattle.spec_model.specs.Expressions.{IsState, IsStateNumber, IsStateChoice, IsStateTest}
 use Rattle.connections.specs.Substitution.{state_truth, next_number, next_choice, next_test, next_formula}
 use Rattle.connections.specs.Laws.{StateTruthDecides}
 use Rattle.connections.proofs.Tells.{Tells, tells_not, tells_and, tells_or, tells_implies, tells_iff}

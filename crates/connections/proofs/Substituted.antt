@@ -7,13 +7,13 @@ use Rattle.typed_ltl.specs.Formulas.{Number, Choice, Proposition, Ltl}
 use Rattle.typed_ltl.specs.Formulas as form
 use Rattle.typed_ltl.specs.Traces.{Assignment, Trace}
 use Rattle.typed_ltl.specs.Truth.{Holds, number_value, choice_name, proposition_truth, as_truth, as_number, as_name, read_value}
-use Rattle.architecture.specs.declared.spec.Spec.{Spec}
-use Rattle.architecture.specs.declared.wire.Wire.{Wire}
-use Rattle.architecture.specs.declared.wire.Target.{Target}
-use Rattle.architecture.specs.declared.wire.Source.{Source}
-use Rattle.architecture.specs.declared.wire.Source.TheVariants as source
-use Rattle.architecture.specs.Expressions.{ReadsBelow, TestReadsBelow, NumberReadsBelow, ChoiceReadsBelow}
-use Rattle.architecture.specs.Architecture.{IsWellFormed, IsStateSource, connection, free_place, ports_at, target}
+use Rattle.spec_model.specs.declared.spec.Spec.{Spec}
+use Rattle.spec_model.specs.declared.wire.Wire.{Wire}
+use Rattle.spec_model.specs.declared.wire.Target.{Target}
+use Rattle.spec_model.specs.declared.wire.Source.{Source}
+use Rattle.spec_model.specs.declared.wire.Source.TheVariants as source
+use Rattle.spec_model.specs.Expressions.{ReadsBelow, TestReadsBelow, NumberReadsBelow, ChoiceReadsBelow}
+use Rattle.spec_model.specs.Architecture.{IsWellFormed, IsStateSource, connection, free_place, ports_at, target}
 use Rattle.connections.specs.Substitution.{Reading, reading, source_reading, reading_value, readings, substituted, substituted_test, substituted_number}
 use Rattle.connections.specs.Substitution.{substituted_choice, truth_for, number_for, choice_for, IsStateReading}
 use Rattle.connections.specs.Substitution as by

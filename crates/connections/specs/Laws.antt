@@ -5,9 +5,9 @@ use Rattle.oss_base.specs.declared.ids.SubId.{SubId}
 use Rattle.typed_ltl.specs.Formulas.{Ltl}
 use Rattle.typed_ltl.specs.Traces.{Trace}
 use Rattle.typed_ltl.specs.Truth.{Holds}
-use Rattle.architecture.specs.declared.spec.Spec.{Spec}
-use Rattle.architecture.specs.Expressions.{IsState, ReadsBelow}
-use Rattle.architecture.specs.Architecture.{IsWellFormed, ports_at}
+use Rattle.spec_model.specs.declared.spec.Spec.{Spec}
+use Rattle.spec_model.specs.Expressions.{IsState, ReadsBelow}
+use Rattle.spec_model.specs.Architecture.{IsWellFormed, ports_at}
 use Rattle.connections.specs.Substitution.{substituted, readings, port_value, state_truth}
 
 -- The truth of a state formula at a position is decided by the valuation there.

@@ -11,13 +11,13 @@ use Rattle.typed_ltl.specs.Formulas.{Number, Choice, Proposition, Ltl, meaning, 
 use Rattle.typed_ltl.specs.Formulas as form
 use Rattle.typed_ltl.specs.Traces.{Assignment}
 use Rattle.typed_ltl.specs.Truth.{number_value, choice_name, proposition_truth}
-use Rattle.architecture.specs.declared.spec.Spec.{Spec}
-use Rattle.architecture.specs.declared.wire.Wire.{Wire}
-use Rattle.architecture.specs.declared.wire.Target.{Target}
-use Rattle.architecture.specs.declared.wire.Source.{Source}
-use Rattle.architecture.specs.declared.wire.Source.TheVariants as source
-use Rattle.architecture.specs.Expressions.{IsState, IsStateNumber, IsStateChoice}
-use Rattle.architecture.specs.Architecture.{connection, free_place, target}
+use Rattle.spec_model.specs.declared.spec.Spec.{Spec}
+use Rattle.spec_model.specs.declared.wire.Wire.{Wire}
+use Rattle.spec_model.specs.declared.wire.Target.{Target}
+use Rattle.spec_model.specs.declared.wire.Source.{Source}
+use Rattle.spec_model.specs.declared.wire.Source.TheVariants as source
+use Rattle.spec_model.specs.Expressions.{IsState, IsStateNumber, IsStateChoice}
+use Rattle.spec_model.specs.Architecture.{connection, free_place, target}
 
 -- The truth value of a formula at a valuation and the next one. A temporal formula has none, and counts
 -- as false.

@@ -2,14 +2,14 @@
 //! connections in one table of cells.
 
 ghost use Rattle.std.specs.Prelude.{◌≡◌, ◌+◌, map, length, IfOk};
-ghost use Rattle.architecture.specs.Architecture.{free_targets};
+ghost use Rattle.spec_model.specs.Architecture.{free_targets};
 ghost use Rattle.connections.specs.Drivers.{driver_rows};
 ghost use Rattle.connections.specs.Tables.{port_counts, blank, row_of as row_number, row_with_wire, rows_with_wire};
 ghost use Rattle.connections.specs.Tables.{rows_with_wires, vacant, vacant_rows, drivers_of_row, drivers_of_rows};
 
-use architecture::{Spec, Target, Wire};
 use oss_base::ComponentId;
 use port_types::NoMemory;
+use spec_model::{Spec, Target, Wire};
 use sqlite_items::Items;
 use std::alloc::Global;
 

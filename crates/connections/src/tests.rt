@@ -1,12 +1,12 @@
 //! One refinement whose connections were followed by hand.
 
 use crate::{Driver, port_drivers};
-use architecture::{
+use oss_base::{ComponentId, SubId};
+use port_types::{Name, NoMemory, PortId, PortType};
+use spec_model::{
     Component, Components, Contracts, Items, OwnPort, OwnPorts, PortUses, Source, Spec, Sub, Subs,
     Target, Uses, Wire, Wires,
 };
-use oss_base::{ComponentId, SubId};
-use port_types::{Name, NoMemory, PortId, PortType};
 use std::alloc::Global;
 use std::test::Fail;
 use typed_ltl::Formula;

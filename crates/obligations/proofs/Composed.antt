@@ -11,11 +11,11 @@ use Rattle.typed_ltl.specs.Formulas as form
 use Rattle.typed_ltl.specs.Traces.{Trace}
 use Rattle.typed_ltl.specs.Truth.{Holds}
 use Rattle.typed_ltl.specs.Laws.{TruthIsStable}
-use Rattle.architecture.specs.declared.spec.Spec.{Spec}
-use Rattle.architecture.specs.declared.contract.Contract.{Contract}
-use Rattle.architecture.specs.declared.item.Item.{Item}
-use Rattle.architecture.specs.Expressions.{ReadsBelow}
-use Rattle.architecture.specs.Architecture.{IsWellFormed, FallsAlongSubs, ports_of, contracts_of, sub_component}
+use Rattle.spec_model.specs.declared.spec.Spec.{Spec}
+use Rattle.spec_model.specs.declared.contract.Contract.{Contract}
+use Rattle.spec_model.specs.declared.item.Item.{Item}
+use Rattle.spec_model.specs.Expressions.{ReadsBelow}
+use Rattle.spec_model.specs.Architecture.{IsWellFormed, FallsAlongSubs, ports_of, contracts_of, sub_component}
 use Rattle.connections.specs.Substitution.{readings, substituted}
 use Rattle.connections.specs.Laws.{SubstitutionKeepsTruth}
 use Rattle.obligations.specs.Levels.{Part, assumption, guarantee, normal_form, listed_assumption, listed_normal_form, is_of_another_sub, Question, MeetsAll}

@@ -1,4 +1,4 @@
-use Rattle.architecture.specs.Propositional.{IsPropositional, IsPropositionalSpec}
+use Rattle.spec_model.specs.Propositional.{IsPropositional, IsPropositionalSpec}
 use Rattle.std.proofs.Common.{◌≡◌, ℕ, zero, suc, ◌+◌, ◌<◌, Bool, true, false, not, ◌&&◌, ◌||◌, cond, List, [], ◌∷◌, ◌++◌, map, length, get_or, take}
 use Rattle.std.proofs.Common.{Option, Some, None, option_map, slice_get, IfSome, refl, sym, ap, ◌∙◌, inl, inr, arith}
 use Rattle.std.proofs.lemmas.Bool.{false≢true}
@@ -16,14 +16,14 @@ use Rattle.typed_ltl.specs.Formulas.{Proposition, Ltl, meaning}
 use Rattle.typed_ltl.specs.Formulas as form
 use Rattle.typed_ltl.specs.Traces.{Assignment, Trace, lasso_place, word}
 use Rattle.typed_ltl.specs.Truth.{as_truth, proposition_truth, Holds}
-use Rattle.architecture.specs.declared.spec.Spec.{Spec}
-use Rattle.architecture.specs.declared.port.OwnPort.{OwnPort}
-use Rattle.architecture.specs.declared.contract.Contract.{Contract}
-use Rattle.architecture.specs.declared.item.Item.{Item}
-use Rattle.architecture.specs.declared.wire.Target.{Target}
-use Rattle.architecture.specs.Expressions.{ReadsBelow}
+use Rattle.spec_model.specs.declared.spec.Spec.{Spec}
+use Rattle.spec_model.specs.declared.port.OwnPort.{OwnPort}
+use Rattle.spec_model.specs.declared.contract.Contract.{Contract}
+use Rattle.spec_model.specs.declared.item.Item.{Item}
+use Rattle.spec_model.specs.declared.wire.Target.{Target}
+use Rattle.spec_model.specs.Expressions.{ReadsBelow}
 use Rattle.port_types.specs.Types.{IsOfType}
-use Rattle.architecture.specs.Architecture.{ports_of, ports_at, contracts_of, sub_component, port_at, free_targets}
+use Rattle.spec_model.specs.Architecture.{ports_of, ports_at, contracts_of, sub_component, port_at, free_targets}
 use Rattle.connections.specs.Drivers.{driver_rows}
 use Rattle.connections.specs.Substitution.{readings, state_truth, substituted}
 use Rattle.connections.specs.Laws.{StateTruthDecides}

@@ -7,14 +7,14 @@ use Rattle.oss_base.specs.declared.ids.ComponentId.{ComponentId}
 use Rattle.oss_base.specs.declared.ids.SubId.{SubId}
 use Rattle.port_types.specs.declared.types.Value.TheVariants as value
 use Rattle.typed_ltl.specs.Traces.{Trace}
-use Rattle.architecture.specs.declared.spec.Spec.{Spec}
-use Rattle.architecture.specs.declared.sub.Sub.{Sub}
-use Rattle.architecture.specs.declared.port.OwnPort.{OwnPort}
-use Rattle.architecture.specs.declared.wire.Wire.{Wire}
-use Rattle.architecture.specs.declared.wire.Target.{Target}
+use Rattle.spec_model.specs.declared.spec.Spec.{Spec}
+use Rattle.spec_model.specs.declared.sub.Sub.{Sub}
+use Rattle.spec_model.specs.declared.port.OwnPort.{OwnPort}
+use Rattle.spec_model.specs.declared.wire.Wire.{Wire}
+use Rattle.spec_model.specs.declared.wire.Target.{Target}
 use Rattle.port_types.specs.Types.{IsOfType}
-use Rattle.architecture.specs.Architecture.{ports_of, ports_at, subs_of, wires_of, sub_component, port_at, target, targets_at, all_ports, same_sub}
-use Rattle.architecture.specs.Architecture.{same_target, connection, free_targets, free_place}
+use Rattle.spec_model.specs.Architecture.{ports_of, ports_at, subs_of, wires_of, sub_component, port_at, target, targets_at, all_ports, same_sub}
+use Rattle.spec_model.specs.Architecture.{same_target, connection, free_targets, free_place}
 use Rattle.connections.specs.Substitution.{reading, source_reading, reading_value, readings, port_value}
 use Rattle.connections.specs.Substitution as by
 use Rattle.connections.specs.Laws.{ConnectionsHold}

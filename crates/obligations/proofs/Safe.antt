@@ -1,8 +1,8 @@
-use Rattle.architecture.specs.Propositional.{IsPropositionalSpec}
+use Rattle.spec_model.specs.Propositional.{IsPropositionalSpec}
 use Rattle.std.proofs.Common.{◌≡◌, ℕ, zero, suc, Bool, List, [], ◌∷◌, length, Option, Some, None, slice_get, subst, refl}
-use Rattle.architecture.specs.declared.spec.Spec.{Spec}
-use Rattle.architecture.specs.declared.item.Item.{Item}
-use Rattle.architecture.specs.Architecture.{free_targets}
+use Rattle.spec_model.specs.declared.spec.Spec.{Spec}
+use Rattle.spec_model.specs.declared.item.Item.{Item}
+use Rattle.spec_model.specs.Architecture.{free_targets}
 use Rattle.typed_ltl.specs.declared.lasso.Verdict.{Verdict}
 use Rattle.typed_ltl.specs.declared.lasso.Verdict.TheVariants as verdict
 use Rattle.obligations.specs.Levels.{Part, Question, entails, assumes, IsValid}

@@ -1,4 +1,4 @@
-use Rattle.architecture.specs.Propositional.{IsPropositional, IsPropositionalSource}
+use Rattle.spec_model.specs.Propositional.{IsPropositional, IsPropositionalSource}
 use Rattle.std.proofs.Common.{◌≡◌, ℕ, zero, suc, ◌+◌, ◌<◌, Bool, true, false, not, cond, List, [], ◌∷◌, map, length, get_or, Option, Some, None}
 use Rattle.std.proofs.Common.{option_map, slice_get, refl, sym, ap, ◌∙◌, arith, add-one}
 use Rattle.std.specs.List.{range_with_len, find}
@@ -9,14 +9,14 @@ use Rattle.typed_ltl.specs.Formulas.{Proposition, Ltl, meaning}
 use Rattle.typed_ltl.specs.Formulas as form
 use Rattle.typed_ltl.specs.Traces.{Assignment}
 use Rattle.typed_ltl.specs.Truth.{as_truth, proposition_truth}
-use Rattle.architecture.specs.declared.spec.Spec.{Spec}
-use Rattle.architecture.specs.declared.sub.Sub.{Sub}
-use Rattle.architecture.specs.declared.wire.Wire.{Wire}
-use Rattle.architecture.specs.declared.wire.Source.{Source}
-use Rattle.architecture.specs.declared.wire.Source.TheVariants as source
-use Rattle.architecture.specs.declared.wire.Target.{Target}
-use Rattle.architecture.specs.Expressions.{IsState, ReadsBelow}
-use Rattle.architecture.specs.Architecture.{ports_of, ports_at, subs_of, wires_of, target, targets_at, same_target, connection, free_targets, free_place}
+use Rattle.spec_model.specs.declared.spec.Spec.{Spec}
+use Rattle.spec_model.specs.declared.sub.Sub.{Sub}
+use Rattle.spec_model.specs.declared.wire.Wire.{Wire}
+use Rattle.spec_model.specs.declared.wire.Source.{Source}
+use Rattle.spec_model.specs.declared.wire.Source.TheVariants as source
+use Rattle.spec_model.specs.declared.wire.Target.{Target}
+use Rattle.spec_model.specs.Expressions.{IsState, ReadsBelow}
+use Rattle.spec_model.specs.Architecture.{ports_of, ports_at, subs_of, wires_of, target, targets_at, same_target, connection, free_targets, free_place}
 use Rattle.connections.specs.declared.driving.Driver.TheVariants as driver
 use Rattle.connections.specs.Drivers.{first_wire, driver_of, port_rows, driver_rows}
 use Rattle.connections.specs.Substitution.{Reading, reading, source_reading, readings, reading_value, state_truth, truth_for, substituted, substituted_test}

@@ -3,9 +3,9 @@
 use Rattle.std.specs.Prelude.{◌≡◌, ℕ, Some, slice_get}
 use Rattle.oss_base.specs.declared.ids.ComponentId.{ComponentId}
 use Rattle.oss_base.specs.declared.ids.ContractId.{ContractId}
-use Rattle.architecture.specs.declared.spec.Spec.{Spec}
-use Rattle.architecture.specs.declared.item.Item.{Item}
-use Rattle.architecture.specs.Architecture.{IsWellFormed}
+use Rattle.spec_model.specs.declared.spec.Spec.{Spec}
+use Rattle.spec_model.specs.declared.item.Item.{Item}
+use Rattle.spec_model.specs.Architecture.{IsWellFormed}
 use Rattle.obligations.specs.Levels.{Part, IsValid, entails, assumes}
 use Rattle.obligations.specs.Systems.{Path, IsRefinedBy, IsReached, IsSafeFor}
 

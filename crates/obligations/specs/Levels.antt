@@ -13,12 +13,12 @@ use Rattle.typed_ltl.specs.Formulas.{Ltl, meaning}
 use Rattle.typed_ltl.specs.Formulas as form
 use Rattle.typed_ltl.specs.Traces.{Trace, word}
 use Rattle.typed_ltl.specs.Truth.{Holds}
-use Rattle.architecture.specs.declared.spec.Spec.{Spec}
-use Rattle.architecture.specs.declared.port.OwnPort.{OwnPort}
-use Rattle.architecture.specs.declared.contract.Contract.{Contract}
-use Rattle.architecture.specs.declared.item.Item.{Item}
+use Rattle.spec_model.specs.declared.spec.Spec.{Spec}
+use Rattle.spec_model.specs.declared.port.OwnPort.{OwnPort}
+use Rattle.spec_model.specs.declared.contract.Contract.{Contract}
+use Rattle.spec_model.specs.declared.item.Item.{Item}
 use Rattle.port_types.specs.Types.{IsOfType}
-use Rattle.architecture.specs.Architecture.{contracts_of, sub_component, port_at, free_targets}
+use Rattle.spec_model.specs.Architecture.{contracts_of, sub_component, port_at, free_targets}
 use Rattle.connections.specs.Substitution.{readings, substituted}
 
 -- A contract of a component. One that does not exist asks and gives nothing.

@@ -4,12 +4,12 @@ use Rattle.std.specs.Option.{option_map_or}
 use Rattle.oss_base.specs.declared.ids.ComponentId.{ComponentId}
 use Rattle.oss_base.specs.declared.ids.ContractId.{ContractId}
 use Rattle.oss_base.specs.declared.ids.SubId.{SubId}
-use Rattle.architecture.specs.declared.spec.Spec.{Spec}
-use Rattle.architecture.specs.declared.spec.Component.{Component}
-use Rattle.architecture.specs.declared.contract.Contract.{Contract}
-use Rattle.architecture.specs.declared.sub.Sub.{Sub}
-use Rattle.architecture.specs.declared.item.Item.{Item}
-use Rattle.architecture.specs.Architecture.{contracts_of, subs_of, sub_component}
+use Rattle.spec_model.specs.declared.spec.Spec.{Spec}
+use Rattle.spec_model.specs.declared.spec.Component.{Component}
+use Rattle.spec_model.specs.declared.contract.Contract.{Contract}
+use Rattle.spec_model.specs.declared.sub.Sub.{Sub}
+use Rattle.spec_model.specs.declared.item.Item.{Item}
+use Rattle.spec_model.specs.Architecture.{contracts_of, subs_of, sub_component}
 use Rattle.obligations.specs.declared.name.ObligationName.{ObligationName}
 use Rattle.obligations.specs.declared.name.ObligationName.TheVariants as obligation
 use Rattle.obligations.specs.Levels.{Part}

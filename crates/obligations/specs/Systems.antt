@@ -8,13 +8,13 @@ use Rattle.oss_base.specs.declared.ids.SubId.{SubId}
 use Rattle.port_types.specs.declared.types.Value.TheVariants as value
 use Rattle.typed_ltl.specs.Traces.{Trace}
 use Rattle.typed_ltl.specs.Truth.{Holds}
-use Rattle.architecture.specs.declared.spec.Spec.{Spec}
-use Rattle.architecture.specs.declared.port.OwnPort.{OwnPort}
-use Rattle.architecture.specs.declared.item.Item.{Item}
-use Rattle.architecture.specs.declared.wire.Wire.{Wire}
-use Rattle.architecture.specs.declared.wire.Target.{Target}
+use Rattle.spec_model.specs.declared.spec.Spec.{Spec}
+use Rattle.spec_model.specs.declared.port.OwnPort.{OwnPort}
+use Rattle.spec_model.specs.declared.item.Item.{Item}
+use Rattle.spec_model.specs.declared.wire.Wire.{Wire}
+use Rattle.spec_model.specs.declared.wire.Target.{Target}
 use Rattle.port_types.specs.Types.{IsOfType}
-use Rattle.architecture.specs.Architecture.{ports_of, wires_of, sub_component, free_targets}
+use Rattle.spec_model.specs.Architecture.{ports_of, wires_of, sub_component, free_targets}
 use Rattle.connections.specs.Substitution.{reading_value, source_reading}
 use Rattle.obligations.specs.Levels.{assumption, guarantee, normal_form}
 

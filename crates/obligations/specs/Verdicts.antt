@@ -1,17 +1,17 @@
 -- Specifications over truth values, and the verdicts of their questions.
-use Rattle.architecture.specs.Propositional.{IsPropositionalSpec}
+use Rattle.spec_model.specs.Propositional.{IsPropositionalSpec}
 use Rattle.std.specs.Prelude.{◌≡◌, ℕ, Bool, true, false, List, [], ◌∷◌, length, Option, Some, None, slice_get}
 use Rattle.oss_base.specs.declared.ids.ComponentId.{ComponentId}
 use Rattle.port_types.specs.declared.types.PortType.TheVariants as kind
-use Rattle.architecture.specs.declared.spec.Spec.{Spec}
-use Rattle.architecture.specs.declared.item.Item.{Item}
-use Rattle.architecture.specs.declared.port.OwnPort.{OwnPort}
-use Rattle.architecture.specs.declared.contract.Contract.{Contract}
-use Rattle.architecture.specs.declared.wire.Wire.{Wire}
-use Rattle.architecture.specs.declared.wire.Source.{Source}
-use Rattle.architecture.specs.declared.wire.Source.TheVariants as source
-use Rattle.architecture.specs.Expressions.{ReadsBelow}
-use Rattle.architecture.specs.Architecture.{ports_of, contracts_of, wires_of, free_targets, IsWellFormed}
+use Rattle.spec_model.specs.declared.spec.Spec.{Spec}
+use Rattle.spec_model.specs.declared.item.Item.{Item}
+use Rattle.spec_model.specs.declared.port.OwnPort.{OwnPort}
+use Rattle.spec_model.specs.declared.contract.Contract.{Contract}
+use Rattle.spec_model.specs.declared.wire.Wire.{Wire}
+use Rattle.spec_model.specs.declared.wire.Source.{Source}
+use Rattle.spec_model.specs.declared.wire.Source.TheVariants as source
+use Rattle.spec_model.specs.Expressions.{ReadsBelow}
+use Rattle.spec_model.specs.Architecture.{ports_of, contracts_of, wires_of, free_targets, IsWellFormed}
 use Rattle.typed_ltl.specs.declared.lasso.Verdict.{Verdict}
 use Rattle.typed_ltl.specs.declared.lasso.Verdict.TheVariants as verdict
 use Rattle.typed_ltl.specs.Formulas.{meaning}

@@ -1,7 +1,7 @@
 //! The verdicts of a level over truth values: the least line of its table that breaks a question. It goes away when
 //! questions are decided by searches.
 
-ghost use Rattle.architecture.specs.Propositional.{IsPropositionalSpec};
+ghost use Rattle.spec_model.specs.Propositional.{IsPropositionalSpec};
 ghost use Rattle.std.specs.Prelude.{◌≡◌, ◌∷◌, [], ◌<◌, IfOk, Some, length, find, slice_get};
 ghost use Rattle.std.specs.Option.{option_copied, option_map};
 ghost use Rattle.std.specs.List.{list_all};
@@ -13,10 +13,10 @@ ghost use Rattle.obligations.specs.Verdicts.{IsVerdict, AreVerdicts};
 ghost use Rattle.obligations.specs.declared.table.TableLine.{TableLine as TheLine};
 
 use crate::table::{TableLine, Truths, lines};
-use architecture::{Item, Spec};
 use connections::port_drivers;
 use oss_base::{ContractId, SubId};
 use port_types::{NoMemory, Value};
+use spec_model::{Item, Spec};
 use sqlite_items::{Items, at};
 use std::alloc::Global;
 use typed_ltl::{Lasso, Valuation, Valuations, Verdict};

@@ -5,9 +5,9 @@ ghost use Rattle.obligations.specs.Names.{component_name as name_of_component, c
 ghost use Rattle.obligations.specs.Names.{sub_name as name_of_sub, part_name as name_of_part};
 ghost use Rattle.obligations.specs.Names.{level_name as name_of_level};
 
-use architecture::{Item, Spec};
 use oss_base::{ComponentId, ContractId, ItemId, SubId};
 use port_types::{Name, NoMemory};
+use spec_model::{Item, Spec};
 use sqlite_items::at;
 use std::alloc::Global;
 

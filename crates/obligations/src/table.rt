@@ -8,10 +8,10 @@ ghost use Rattle.obligations.specs.Tables.{port_truths as port_values, driver_tr
 ghost use Rattle.obligations.specs.Tables.{contract_truths as contract_values, part_truths as part_values};
 ghost use Rattle.obligations.specs.Tables.{table_line};
 
-use architecture::{Item, Source, Spec, Wire};
 use connections::Driver;
 use oss_base::{ComponentId, ContractId, SubId};
 use port_types::NoMemory;
+use spec_model::{Item, Source, Spec, Wire};
 use sqlite_items::{Items, at};
 use std::alloc::Global;
 use typed_ltl::{Atom, Formula};

@@ -1,12 +1,12 @@
 //! One system of two valves, with verdicts and names found by hand.
 
 use crate::{ObligationName, verdicts};
-use architecture::{
+use oss_base::{ComponentId, ContractId, ItemId, Place, SubId};
+use port_types::{Name, NoMemory, PortId, PortType, Value};
+use spec_model::{
     Component, Components, Contract, Contracts, Item, ItemParts, Items, OwnPort, OwnPorts,
     PortUses, Source, Spec, Sub, Subs, Target, Uses, Wire, Wires,
 };
-use oss_base::{ComponentId, ContractId, ItemId, Place, SubId};
-use port_types::{Name, NoMemory, PortId, PortType, Value};
 use std::alloc::Global;
 use std::test::Fail;
 use typed_ltl::{Atom, Formula, Verdict};

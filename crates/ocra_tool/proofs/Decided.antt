@@ -3,9 +3,9 @@ use Rattle.std.specs.List.{list_any}
 use Rattle.oss_base.specs.declared.ids.ItemId.{ItemId}
 use Rattle.typed_ltl.specs.declared.lasso.Verdict.{Verdict}
 use Rattle.typed_ltl.specs.declared.lasso.Verdict.TheVariants as verdict
-use Rattle.architecture.specs.declared.spec.Spec.{Spec}
-use Rattle.architecture.specs.declared.item.Item.{Item}
-use Rattle.architecture.specs.Architecture.{free_targets}
+use Rattle.spec_model.specs.declared.spec.Spec.{Spec}
+use Rattle.spec_model.specs.declared.item.Item.{Item}
+use Rattle.spec_model.specs.Architecture.{free_targets}
 use Rattle.obligations.specs.Levels.{Part, entails, assumes}
 use Rattle.obligations.specs.Valuations.{first_breaking}
 use Rattle.obligations.specs.Verdicts.{IsVerdict, AreVerdicts, AreAssumesVerdicts}

@@ -27,10 +27,10 @@ use Rattle.ocra_tool.specs.Statuses.{IsDone}
 use Rattle.report.specs.declared.answers.Answer.{Answer}
 use Rattle.report.specs.Answers.{status, is_refuted, is_undecided}
 use Rattle.ocra_tool.proofs.Decided.{all_decided}
-use Rattle.architecture.specs.declared.spec.Spec.{Spec}
+use Rattle.spec_model.specs.declared.spec.Spec.{Spec}
 use Rattle.architecture.specs.FirstForm.{FirstForm}
 use Rattle.architecture.specs.Stands.{Stands, Refuses}
-use Rattle.architecture.specs.Propositional.{IsPropositionalSpec}
+use Rattle.spec_model.specs.Propositional.{IsPropositionalSpec}
 use Rattle.architecture.specs.Laws.{FirstFormIsPropositional}
 use Rattle.obligations.specs.Verdicts.{LevelsAreDecided}
 use Rattle.report.specs.AllAnswers.{SuccessIsSafe}

@@ -1,8 +1,8 @@
 -- What `check` answers on a specification: the verdict of each obligation, the report, the status, and what follows
 -- for the whole system where all obligations are proved.
 use Rattle.std.specs.Prelude.{◌≡◌, ℕ, List}
-use Rattle.architecture.specs.declared.spec.Spec.{Spec}
-use Rattle.architecture.specs.declared.item.Item.{Item}
+use Rattle.spec_model.specs.declared.spec.Spec.{Spec}
+use Rattle.spec_model.specs.declared.item.Item.{Item}
 use Rattle.obligations.specs.Systems.{IsSafe}
 use Rattle.obligations.specs.Verdicts.{IsDecidedLevel}
 use Rattle.report.specs.declared.answers.Answer.{Answer}

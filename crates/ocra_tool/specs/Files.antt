@@ -14,7 +14,7 @@ use Rattle.oss_syntax.specs.Terminals.{terminals_of}
 use Rattle.oss_syntax.specs.Texts.{IsText}
 use Rattle.oss_syntax.specs.Trees.{Component, component_trees}
 use Rattle.oss_syntax.specs.SyntaxFaults.{IsSyntaxKind}
-use Rattle.architecture.specs.declared.spec.Spec.{Spec}
+use Rattle.spec_model.specs.declared.spec.Spec.{Spec}
 use Rattle.architecture.specs.FirstForm.{FirstForm}
 use Rattle.architecture.specs.Stands.{Stands}
 

@@ -8,7 +8,7 @@ use Rattle.ocra_tool.specs.Files.{IsFaultOf}
 use Rattle.ocra_tool.specs.Statuses.{IsDone}
 use Rattle.ocra_tool.specs.Decided.{IsChecked}
 use Rattle.report.specs.AllAnswers.{AreAnswers}
-use Rattle.architecture.specs.declared.spec.Spec.{Spec}
+use Rattle.spec_model.specs.declared.spec.Spec.{Spec}
 use Rattle.report.specs.declared.answers.Answer.{Answer}
 use Rattle.report.specs.Answers.{status, is_undecided}
 use Rattle.report.specs.CheckTexts.{check_text}

@@ -7,13 +7,13 @@ ghost use Rattle.oss_base.specs.Limits.{most_bytes};
 ghost use Rattle.ocra_tool.specs.Decided.{IsChecked};
 ghost use Rattle.ocra_tool.specs.Files.{at_start, IsFaultOf, IsSoleTreeOf};
 ghost use Rattle.ocra_tool.specs.Statuses.{IsDone};
-ghost use Rattle.architecture.specs.Propositional.{IsPropositionalSpec};
+ghost use Rattle.spec_model.specs.Propositional.{IsPropositionalSpec};
 ghost use Rattle.ocra_tool.specs.Outcomes.{IsReportOf, Means};
 ghost use Rattle.ocra_tool.specs.Words.{CheckFile};
 
 use crate::lines::fault_line;
 use crate::outcome::{Outcome, Report};
-use architecture::{Spec, resolve};
+use architecture::resolve;
 use oss_base::{Fault, FaultKind, MOST_BYTES, Place, Stop};
 use oss_io::{ReadStop, Shelf, read_all};
 use oss_lexer::lex;
@@ -21,6 +21,7 @@ use oss_reader::read_tree;
 use oss_syntax::SpecTree;
 use port_types::NoMemory;
 use report::{answer_by_valuations, render_check, status_of};
+use spec_model::Spec;
 use std::alloc::Global;
 
 /// What comes of `check FILE`.

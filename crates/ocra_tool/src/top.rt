@@ -7,7 +7,7 @@ ghost use Rattle.oss_io.specs.Outside.{AppendsFront, Rose};
 ghost use Rattle.ocra_tool.specs.Answers.{IsQuiet, OfFile};
 ghost use Rattle.ocra_tool.specs.Statuses.{IsDone, IsStatus};
 ghost use Rattle.oss_base.specs.declared.fault.Fault.{Fault};
-ghost use Rattle.architecture.specs.declared.spec.Spec.{Spec};
+ghost use Rattle.spec_model.specs.declared.spec.Spec.{Spec};
 ghost use Rattle.obligations.specs.Systems.{IsSafe};
 ghost use Rattle.ocra_tool.specs.Decided.{IsChecked};
 ghost use Rattle.ocra_tool.specs.Files.{Accepted, IsFaultOf, IsSystemOf, Refused};

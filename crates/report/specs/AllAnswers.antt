@@ -1,9 +1,9 @@
 -- The answers to all obligations of a specification, and what they say of the whole system.
-use Rattle.architecture.specs.Propositional.{IsPropositionalSpec}
+use Rattle.spec_model.specs.Propositional.{IsPropositionalSpec}
 use Rattle.std.specs.Prelude.{◌≡◌, ℕ, zero, suc, ◌+◌, List, [], ◌∷◌, ◌++◌}
 use Rattle.oss_base.specs.declared.ids.ItemId.{ItemId}
-use Rattle.architecture.specs.declared.spec.Spec.{Spec}
-use Rattle.architecture.specs.declared.item.Item.{Item}
+use Rattle.spec_model.specs.declared.spec.Spec.{Spec}
+use Rattle.spec_model.specs.declared.item.Item.{Item}
 use Rattle.typed_ltl.specs.declared.lasso.Verdict.{Verdict}
 use Rattle.obligations.specs.declared.name.ObligationName.{ObligationName}
 use Rattle.obligations.specs.declared.name.ObligationName.TheVariants as obligation

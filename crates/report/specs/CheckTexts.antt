@@ -4,8 +4,8 @@ use Rattle.std.specs.List.{flat_map, count_by}
 use Rattle.std.specs.Option.{option_map_or}
 use Rattle.oss_base.specs.declared.ids.ComponentId.{ComponentId}
 use Rattle.oss_base.specs.declared.ids.ItemId.{ItemId}
-use Rattle.architecture.specs.declared.spec.Spec.{Spec}
-use Rattle.architecture.specs.declared.item.Item.{Item}
+use Rattle.spec_model.specs.declared.spec.Spec.{Spec}
+use Rattle.spec_model.specs.declared.item.Item.{Item}
 use Rattle.typed_ltl.specs.declared.lasso.Verdict.{Verdict}
 use Rattle.typed_ltl.specs.declared.lasso.Verdict.TheVariants as verdict
 use Rattle.obligations.specs.declared.name.ObligationName.{ObligationName}

@@ -1,10 +1,10 @@
 -- Serves proofs only: how the names of free ports are found: row by row, by what drives each port.
 use Rattle.std.specs.Prelude.{List, ℕ, [], ◌∷◌, ◌++◌, codes}
 use Rattle.std.specs.List.{flat_map, zip}
-use Rattle.architecture.specs.declared.spec.Spec.{Spec}
-use Rattle.architecture.specs.declared.port.OwnPort.{OwnPort}
-use Rattle.architecture.specs.declared.sub.Sub.{Sub}
-use Rattle.architecture.specs.Architecture.{ports_of}
+use Rattle.spec_model.specs.declared.spec.Spec.{Spec}
+use Rattle.spec_model.specs.declared.port.OwnPort.{OwnPort}
+use Rattle.spec_model.specs.declared.sub.Sub.{Sub}
+use Rattle.spec_model.specs.Architecture.{ports_of}
 use Rattle.connections.specs.declared.driving.Driver.{Driver}
 use Rattle.connections.specs.declared.driving.Driver.TheVariants as driver
 

@@ -5,10 +5,10 @@ ghost use Rattle.std.specs.List.{flat_map, zip};
 ghost use Rattle.report.specs.FreeNames.{free_names as names_of_free};
 ghost use Rattle.report.specs.FreeRows.{name_where_free, row_names, sub_row_names};
 
-use architecture::{OwnPort, Spec, Sub};
 use connections::{Driver, port_drivers};
 use oss_base::ComponentId;
 use port_types::{Name, Names, NoMemory};
+use spec_model::{OwnPort, Spec, Sub};
 use sqlite_items::Items;
 use std::alloc::Global;
 

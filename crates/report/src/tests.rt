@@ -1,13 +1,13 @@
 //! Texts written by hand.
 
 use crate::{Answer, Answers, answer_by_valuations, render_check, status_of};
-use architecture::{
-    Component, Components, Contract, Contracts, Item, ItemParts, Items, OwnPort, OwnPorts,
-    PortUses, Source, Spec, Sub, Subs, Target, Uses, Wire, Wires,
-};
 use obligations::ObligationName;
 use oss_base::{ComponentId, ContractId, ItemId, Place, SubId};
 use port_types::{Name, Names, NoMemory, PortId, PortType, Value};
+use spec_model::{
+    Component, Components, Contract, Contracts, Item, ItemParts, Items, OwnPort, OwnPorts,
+    PortUses, Source, Spec, Sub, Subs, Target, Uses, Wire, Wires,
+};
 use std::alloc::Global;
 use std::test::Fail;
 use typed_ltl::{Formula, Lasso, Valuation, Valuations, Verdict};

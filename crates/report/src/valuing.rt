@@ -1,15 +1,15 @@
 //! The answers to all obligations of a specification over truth values.
 
-ghost use Rattle.architecture.specs.Propositional.{IsPropositionalSpec};
+ghost use Rattle.spec_model.specs.Propositional.{IsPropositionalSpec};
 ghost use Rattle.std.specs.Prelude.{◌≡◌, ◌∷◌, ◌++◌, [], IfOk, OnOk};
 ghost use Rattle.report.specs.AllAnswers.{answer, answers_from, obligation_of as obligation_at, AreAnswers};
 ghost use Rattle.report.specs.AllAnswers.{SuccessIsSafe};
 
 use crate::answers::{Answer, Answers};
-use architecture::Spec;
 use obligations::{ObligationName, verdicts};
 use oss_base::ItemId;
 use port_types::NoMemory;
+use spec_model::Spec;
 use std::alloc::Global;
 use typed_ltl::Verdict;
 

@@ -1,5 +1,5 @@
 use Rattle.std.specs.Prelude.{◌≡◌, map, take}
-use Rattle.architecture.specs.declared.sub.Sub.{Sub}
+use Rattle.spec_model.specs.declared.sub.Sub.{Sub}
 use Rattle.architecture.specs.Resolving as resolving
 use Rattle.architecture.proofs.resolve_tree.port_counts.Given as goal
 

@@ -1,6 +1,6 @@
 use Rattle.std.proofs.Common.{◌≡◌, ◌∷◌, take, map, length}
-use Rattle.architecture.specs.declared.sub.Sub.{Sub}
-use Rattle.architecture.specs.Architecture.{ports_of}
+use Rattle.spec_model.specs.declared.sub.Sub.{Sub}
+use Rattle.spec_model.specs.Architecture.{ports_of}
 use Rattle.connections.specs.Tables.{blank}
 use Rattle.connections.proofs.driving.blank_rows.Given as goal
 

@@ -1,5 +1,5 @@
 use Rattle.std.proofs.Common.{◌≡◌, ap, ◌∙◌, map}
-use Rattle.architecture.specs.Architecture.{wires_of}
+use Rattle.spec_model.specs.Architecture.{wires_of}
 use Rattle.connections.specs.Tables.{port_counts, blank, rows_with_wires, drivers_of_rows, vacant_rows}
 use Rattle.connections.proofs.Driven.{rows_driven, rows_vacant}
 use Rattle.connections.proofs.driving.port_drivers.Goals as goal

@@ -1,4 +1,4 @@
-use Rattle.architecture.specs.Propositional.{IsPropositionalSpec}
+use Rattle.spec_model.specs.Propositional.{IsPropositionalSpec}
 use Rattle.std.proofs.Common.{take}
 use Rattle.obligations.proofs.Decided.{AreVerdictsOf}
 use Rattle.obligations.proofs.deciding.verdicts.Given as goal

@@ -1,4 +1,4 @@
-use Rattle.architecture.specs.Propositional.{IsPropositionalSpec}
+use Rattle.spec_model.specs.Propositional.{IsPropositionalSpec}
 use Rattle.std.proofs.Common.{take}
 use Rattle.report.specs.AllAnswers.{AreAnswersFrom}
 use Rattle.report.proofs.valuing.answer_by_valuations.Given as goal

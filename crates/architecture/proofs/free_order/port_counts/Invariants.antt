@@ -1,7 +1,0 @@
-use Rattle.std.specs.Prelude.{◌≡◌, map, take, length}
-use Rattle.architecture.specs.declared.sub.Sub.{Sub}
-use Rattle.architecture.specs.Architecture.{ports_of}
-use Rattle.architecture.proofs.free_order.port_counts.Given as goal
-
-abbrev pub invariant-loop-sub : goal.invariant-loop-sub
-invariant-loop-sub l = l.counts.items ≡ map (λ (s : Sub). length (ports_of l.spec s.component)) (take l.sub-index l.subs)

@@ -1,7 +1,0 @@
-use Rattle.std.specs.Prelude.{◌≡◌, map, take, length}
-use Rattle.architecture.specs.declared.wire.Wire.{Wire}
-use Rattle.architecture.specs.Architecture.{ports_of}
-use Rattle.architecture.proofs.free_order.targets_of.Given as goal
-
-abbrev pub invariant-loop-wire : goal.invariant-loop-wire
-invariant-loop-wire l = l.targets.items ≡ map (λ (w : Wire). w.target) (take l.wire-index l.wires)

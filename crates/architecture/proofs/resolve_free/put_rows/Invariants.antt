@@ -1,6 +1,0 @@
-use Rattle.std.specs.Prelude.{◌≡◌, ◌++◌, filter, take}
-use Rattle.architecture.specs.Resolving as resolving
-use Rattle.architecture.proofs.resolve_free.put_rows.Given as goal
-
-abbrev pub invariant-loop-place : goal.invariant-loop-place
-invariant-loop-place l = l.free.items ≡ l.fn.free.items ++ filter (resolving.lacks_key l.connected) (resolving.rows 0 (take l.place l.counts))

@@ -1,0 +1,7 @@
+pub mod Targets
+pub mod Building
+pub mod FreeRows
+pub mod FreeTargets
+pub mod FreeShown
+pub mod FreePlaces
+pub mod MadeAgain

@@ -1,0 +1,7 @@
+pub mod Expressions
+pub mod Architecture
+pub mod FreeRows
+pub mod Propositional
+pub mod Meanings
+pub mod Laws
+pub mod FreePlaces
