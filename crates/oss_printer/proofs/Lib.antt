@@ -1,0 +1,11 @@
+pub mod Appends
+pub mod Chunks
+pub mod Cutting
+pub mod CutForms
+pub mod Fits
+pub mod Fitting
+pub mod Forms
+pub mod Lines
+pub mod ReadingBack
+pub mod ReadingItems
+pub mod Spanless

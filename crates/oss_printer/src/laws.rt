@@ -1,0 +1,15 @@
+//! What is always so of canonical texts: a law on a function without code that may be called for its clause. Touches
+//! nothing.
+
+ghost use Rattle.oss_printer.specs.Laws.{CanonicalTextReadsBack, SpansMakeNoDifference};
+
+/// The canonical text of what some text is read as has tokens, and is a text of the same specification but for the
+/// places of its parts.
+pub fn canonical_text_reads_back()
+    ensures { CanonicalTextReadsBack }
+{}
+
+/// Specifications that are the same but for the places of their parts have one canonical text.
+pub fn spans_make_no_difference()
+    ensures { SpansMakeNoDifference }
+{}
