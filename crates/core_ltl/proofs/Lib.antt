@@ -1,0 +1,13 @@
+pub mod CoreTruth
+pub mod NodeFormulas
+pub mod Added
+pub mod Fronts
+pub mod Closed
+pub mod Once
+pub mod Walks
+pub mod Chains
+pub mod Bounds
+pub mod AtomTables
+pub mod FormulaForms
+pub mod Arms
+pub mod NodeTruth
