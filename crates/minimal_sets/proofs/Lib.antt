@@ -1,0 +1,4 @@
+mod BlockLaws
+mod PlaceByPlace
+mod Cursors
+mod Ranks
