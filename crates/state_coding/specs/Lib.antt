@@ -1,0 +1,6 @@
+pub mod Codes
+pub mod States
+pub mod Numbers
+pub mod Atoms
+pub mod Reads
+pub mod Laws
