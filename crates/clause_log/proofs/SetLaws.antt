@@ -9,7 +9,7 @@ use Rattle.std.proofs.lemmas.List.Elements.{Contains-append_left, Contains-appen
 use Rattle.cnf.specs.declared.lit.Lit.{Lit}
 use Rattle.clause_log.specs.declared.lit_set.Signs.{Signs}
 use Rattle.clause_log.specs.Marks.{sign_mark, with_mark, no_marks, mark_of, mark_count, signs_count}
-use Rattle.clause_log.specs.Members.{if_marked, members_below, members}
+use Rattle.clause_log.specs.Members.{if_marked, members_below, marked_lits}
 use Rattle.clause_log.proofs.Lits.{lit_same, no_member, has_head, has_cases}
 
 -- what is mark_of has its variable below the bound
@@ -171,8 +171,8 @@ members_only marks (suc var) lit h =
       | inr there ↦ members_only marks var lit there
     ]
 
-pub marked_member : (marks : List Signs) (lit : Lit) → mark_of marks lit ≡ true → Contains (members marks) lit
+pub marked_member : (marks : List Signs) (lit : Lit) → mark_of marks lit ≡ true → Contains (marked_lits marks) lit
 marked_member marks lit h = members_have marks (length marks) lit (marked_known marks lit h) h
 
-pub member_marked : (marks : List Signs) (lit : Lit) → Contains (members marks) lit → mark_of marks lit ≡ true
+pub member_marked : (marks : List Signs) (lit : Lit) → Contains (marked_lits marks) lit → mark_of marks lit ≡ true
 member_marked marks lit h = members_only marks (length marks) lit h

@@ -13,7 +13,7 @@ use Rattle.clause_log.specs.declared.lit_set.Signs.{Signs}
 use Rattle.clause_log.specs.declared.chain.Pivot.{Pivot}
 use Rattle.clause_log.specs.declared.chain.Chain.{Chain}
 use Rattle.clause_log.specs.Marks.{mark_of, SetsMark, SetsMarks}
-use Rattle.clause_log.specs.Members.{members}
+use Rattle.clause_log.specs.Members.{marked_lits}
 use Rattle.clause_log.specs.Derivations.{SameLits, Resolves, Leads, Follows, clauses_before, EachFollows}
 use Rattle.clause_log.proofs.Lits.{lit_cases, taken_cases, taken_old, taken_new, no_member, same_var, opposite-opposite, opposite_differs, has_or_not}
 use Rattle.clause_log.proofs.SetLaws.{marked_known, marked_member, member_marked}
@@ -24,7 +24,7 @@ pub resolved : (old a b new : List Signs) (clause : List Lit) (pivot : Lit) (sta
     → mark_of old pivot ≡ true → Contains clause (opposite pivot)
     → SetsMark old pivot false a → stays ≡ mark_of a (opposite pivot) → SetsMarks a clause true b
     → SetsMark b (opposite pivot) stays new
-    → Resolves (members old) clause pivot (members new)
+    → Resolves (marked_lits old) clause pivot (marked_lits new)
 resolved old a b new clause pivot stays on has first was second third = record {
   on_left = marked_member old pivot on;
   on_right = has;
@@ -34,15 +34,15 @@ resolved old a b new clause pivot stays on has first was second third = record {
     opposite_was : stays ≡ mark_of old (opposite pivot)
     opposite_was = was ∙ first.others (opposite pivot) (λ e. opposite_differs pivot (sym e))
 
-    to : (lit : Lit) → Contains (members new) lit
-        → (Contains (members old) lit × (lit ≢ pivot)) ⊎ (Contains clause lit × (lit ≢ opposite pivot))
+    to : (lit : Lit) → Contains (marked_lits new) lit
+        → (Contains (marked_lits old) lit × (lit ≢ pivot)) ⊎ (Contains clause lit × (lit ≢ opposite pivot))
     to lit c =
         let is : mark_of new lit ≡ true = member_marked new lit c in
         elim (lit_cases lit (opposite pivot)) [
           | inl e ↦
               let at : mark_of new (opposite pivot) ≡ true = subst (λ (l : Lit). mark_of new l ≡ true) e is in
               inl (
-                subst (λ (l : Lit). Contains (members old) l) (sym e)
+                subst (λ (l : Lit). Contains (marked_lits old) l) (sym e)
                     (marked_member old (opposite pivot) (sym opposite_was ∙ sym third.here ∙ at)),
                 λ q. opposite_differs pivot (sym q ∙ e),
               )
@@ -59,8 +59,8 @@ resolved old a b new clause pivot stays on has first was second third = record {
               ]
         ]
 
-    from : (lit : Lit) → (Contains (members old) lit × (lit ≢ pivot)) ⊎ (Contains clause lit × (lit ≢ opposite pivot))
-        → Contains (members new) lit
+    from : (lit : Lit) → (Contains (marked_lits old) lit × (lit ≢ pivot)) ⊎ (Contains clause lit × (lit ≢ opposite pivot))
+        → Contains (marked_lits new) lit
     from lit (inl left) =
         let was_on : mark_of old lit ≡ true = member_marked old lit left.0 in
         marked_member new lit (elim (lit_cases lit (opposite pivot)) [
@@ -193,7 +193,7 @@ known_later n m clauses e all = rw e all
 -- ---- a chain from its first clause to its last test
 
 pub began : (old new : List Signs) (lits : List Lit) → ((lit : Lit) → mark_of old lit ≡ false)
-    → SetsMarks old lits true new → SameLits lits (members new)
+    → SetsMarks old lits true new → SameLits lits (marked_lits new)
 began old new lits none is lit = (
   λ c. marked_member new lit (is.here lit c),
   λ m. elim (has_or_not lits lit) [
@@ -205,7 +205,7 @@ began old new lits none is lit = (
 pub same_back : (xs ys : List Lit) → SameLits xs ys → SameLits ys xs
 same_back xs ys h lit = ((h lit).1, (h lit).0)
 
-pub all_marked : (marks : List Signs) (lits : List Lit) → SameLits (members marks) lits
+pub all_marked : (marks : List Signs) (lits : List Lit) → SameLits (marked_lits marks) lits
     → All (λ lit. mark_of marks lit ≡ true) lits
 all_marked marks lits same k d low = member_marked marks (get_or lits k d) ((same (get_or lits k d)).1 (Contains-get_or lits k d low))
 
@@ -214,7 +214,7 @@ pub all_known : (marks : List Signs) (lits : List Lit) → All (λ lit. mark_of 
 all_known marks lits all k d low = marked_known marks (get_or lits k d) (all k d low)
 
 pub exactly : (old new : List Signs) (lits : List Lit) → All (λ lit. mark_of old lit ≡ true) lits
-    → SetsMarks old lits false new → ((lit : Lit) → mark_of new lit ≡ false) ↔ SameLits (members old) lits
+    → SetsMarks old lits false new → ((lit : Lit) → mark_of new lit ≡ false) ↔ SameLits (marked_lits old) lits
 exactly old new lits all is = (
   λ none lit. (
     λ m. elim (has_or_not lits lit) [
@@ -271,32 +271,32 @@ steps_done before start left steps i clause past h =
     (λ g. subst (λ (l : List Pivot). Leads before left l clause) e (h.0 g), λ g. h.1 (subst (λ (l : List Pivot). Leads before left l clause) (sym e) g))
 
 pub not_led : (before : List (List Lit)) (chain : Chain) (first : List Lit) (marks : List Signs) (steps : List Pivot)
-    → first ≡ get_or before chain.first [] → SameLits first (members marks) → steps ≡ chain.rest
-    → ((clause : List Lit) → Leads before (members marks) steps clause → ⊥) → Follows before chain → ⊥
+    → first ≡ get_or before chain.first [] → SameLits first (marked_lits marks) → steps ≡ chain.rest
+    → ((clause : List Lit) → Leads before (marked_lits marks) steps clause → ⊥) → Follows before chain → ⊥
 not_led before chain first marks steps is same e none follows =
-    none chain.clause (subst (λ (l : List Pivot). Leads before (members marks) l chain.clause) (sym e)
-    (leads_same before first (members marks) chain.rest chain.clause same
+    none chain.clause (subst (λ (l : List Pivot). Leads before (marked_lits marks) l chain.clause) (sym e)
+    (leads_same before first (marked_lits marks) chain.rest chain.clause same
     (subst (λ (l : List Lit). Leads before l chain.rest chain.clause) (sym is) follows.1)))
 
 pub led : (before : List (List Lit)) (chain : Chain) (first lits : List Lit) (marks after : List Signs)
     (steps : List Pivot) (result : Bool) → (chain.first < length before) × (first ≡ get_or before chain.first [])
-    → SameLits first (members marks) → steps ≡ chain.rest → lits ≡ chain.clause
-    → ((clause : List Lit) → Leads before (members marks) steps clause ↔ SameLits (members after) clause)
-    → (result ≡ true) ↔ SameLits (members after) lits → (result ≡ true) ↔ Follows before chain
+    → SameLits first (marked_lits marks) → steps ≡ chain.rest → lits ≡ chain.clause
+    → ((clause : List Lit) → Leads before (marked_lits marks) steps clause ↔ SameLits (marked_lits after) clause)
+    → (result ≡ true) ↔ SameLits (marked_lits after) lits → (result ≡ true) ↔ Follows before chain
 led before chain first lits marks after steps result (known, is) same es el leads exact = (
   λ r.
-      let reached : Leads before (members marks) steps lits = (leads lits).1 (exact.0 r) in
-      let reached' : Leads before (members marks) chain.rest chain.clause = subst (λ (l : List Lit). Leads before (members marks) chain.rest l) el
-      (subst (λ (l : List Pivot). Leads before (members marks) l lits) es reached) in (
+      let reached : Leads before (marked_lits marks) steps lits = (leads lits).1 (exact.0 r) in
+      let reached' : Leads before (marked_lits marks) chain.rest chain.clause = subst (λ (l : List Lit). Leads before (marked_lits marks) chain.rest l) el
+      (subst (λ (l : List Pivot). Leads before (marked_lits marks) l lits) es reached) in (
         known,
         subst (λ (l : List Lit). Leads before l chain.rest chain.clause) is
-            (leads_same before (members marks) first chain.rest chain.clause (same_back first (members marks) same) reached'),
+            (leads_same before (marked_lits marks) first chain.rest chain.clause (same_back first (marked_lits marks) same) reached'),
       ),
   λ f.
-      let begun : Leads before (members marks) chain.rest chain.clause = leads_same before first (members marks) chain.rest chain.clause same
+      let begun : Leads before (marked_lits marks) chain.rest chain.clause = leads_same before first (marked_lits marks) chain.rest chain.clause same
       (subst (λ (l : List Lit). Leads before l chain.rest chain.clause) (sym is) f.1) in
-      let begun' : Leads before (members marks) steps lits = subst (λ (l : List Lit). Leads before (members marks) steps l) (sym el)
-      (subst (λ (l : List Pivot). Leads before (members marks) l chain.clause) (sym es) begun) in
+      let begun' : Leads before (marked_lits marks) steps lits = subst (λ (l : List Lit). Leads before (marked_lits marks) steps l) (sym el)
+      (subst (λ (l : List Pivot). Leads before (marked_lits marks) l chain.clause) (sym es) begun) in
       exact.1 ((leads lits).0 begun'),
 )
 

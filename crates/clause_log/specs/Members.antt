@@ -17,5 +17,5 @@ members_below marks (suc var) =
     ++ members_below marks var
 
 -- the literals in the set
-abbrev pub members : List Signs → List Lit
-members marks = members_below marks (length marks)
+abbrev pub marked_lits : List Signs → List Lit
+marked_lits marks = members_below marks (length marks)

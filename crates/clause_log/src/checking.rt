@@ -8,7 +8,7 @@ ghost use Rattle.std.specs.Prelude.{IsTrue, IfOk, MatchOption, All, Contains, le
 ghost use Rattle.cnf.specs.declared.lit.Lit.{Lit};
 ghost use Rattle.cnf.specs.Clauses.{opposite, HasNoModel};
 ghost use Rattle.clause_log.specs.Marks.{mark_of, SetsMarks};
-ghost use Rattle.clause_log.specs.Members.{members};
+ghost use Rattle.clause_log.specs.Members.{marked_lits};
 ghost use Rattle.clause_log.specs.Derivations.{SameLits, Resolves, Leads, Follows, Derives, DerivationsRefute};
 ghost use Rattle.clause_log.specs.Derivations.{clauses_by_number, EachFollows, EndsEmpty};
 
@@ -97,8 +97,8 @@ fn resolve(set: &mut LitSet, clause: &[Lit], var: usize) -> bool
     requires { All (λ lit. lit.var < length set.old) clause.now }
     ensures vars { length set.new ≡ length set.old }
     ensures yes { IsTrue result → (pivot : Lit) × (pivot.var ≡ var)
-        × Resolves (members set.old) clause.now pivot (members set.new) }
-    ensures no { result ≡ false → (pivot : Lit) → pivot.var ≡ var → Contains (members set.old) pivot
+        × Resolves (marked_lits set.old) clause.now pivot (marked_lits set.new) }
+    ensures no { result ≡ false → (pivot : Lit) → pivot.var ≡ var → Contains (marked_lits set.old) pivot
         → Contains clause.now (opposite pivot) → ⊥ }
 {
     match pivot_of(set, clause, var) {
@@ -120,10 +120,10 @@ fn take_steps(cnf: &[Clause], log: &[Chain], steps: &[Pivot], set: &mut LitSet) 
     requires { All (All (λ lit. lit.var < length set.old)) (clauses_by_number cnf.now log.now) }
     ensures vars { length set.new ≡ length set.old }
     ensures yes { IsTrue result → (clause : List Lit)
-        → Leads (clauses_by_number cnf.now log.now) (members set.old) steps.now clause
-        ↔ SameLits (members set.new) clause }
+        → Leads (clauses_by_number cnf.now log.now) (marked_lits set.old) steps.now clause
+        ↔ SameLits (marked_lits set.new) clause }
     ensures no { result ≡ false → (clause : List Lit)
-        → Leads (clauses_by_number cnf.now log.now) (members set.old) steps.now clause → ⊥ }
+        → Leads (clauses_by_number cnf.now log.now) (marked_lits set.old) steps.now clause → ⊥ }
 {
     for step in steps {
         match clause_at(cnf, log, step.clause) {
@@ -141,7 +141,7 @@ fn take_steps(cnf: &[Clause], log: &[Chain], steps: &[Pivot], set: &mut LitSet) 
 // Whether the set has exactly the literals; if so, it is empty afterwards.
 fn take_exactly(set: &mut LitSet, lits: &[Lit]) -> bool
     ensures vars { length set.new ≡ length set.old }
-    ensures result { IsTrue result ↔ SameLits (members set.old) lits.now }
+    ensures result { IsTrue result ↔ SameLits (marked_lits set.old) lits.now }
     ensures empty { IsTrue result → (lit : Lit) → mark_of set.new lit ≡ false }
     ensures known { IsTrue result → All (λ lit. lit.var < length set.old) lits.now }
 {
