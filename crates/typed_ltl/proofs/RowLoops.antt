@@ -49,35 +49,45 @@ read_at : (states : List (List Value)) (i : ℕ) (x : List Value) → i < length
     → x ≡ get_or states i []
 read_at states i x lt e = e ∙ get_or_default states i x [] lt
 
+-- the valuations that are read at a position of a lasso: its own, and the next one's
+pub record AreReadAt (states : List (List Value)) (l i next : ℕ) (now after : List Value) : Type 0 where
+  pub inside : i < length states
+  pub within : next < length states
+  pub next_is : next ≡ lasso_place (length states) l (i + 1)
+  pub now_is : now ≡ get_or states i now
+  pub after_is : after ≡ get_or states next after
+
+-- as positions of the lasso's word
+word_now : (states : List (List Value)) (l i next : ℕ) (now after : List Value) → AreReadAt states l i next now after
+    → now ≡ get_or states (lasso_place (length states) l i) []
+word_now states l i next now after r =
+    read_at states i now r.inside r.now_is ∙ ap (λ k. get_or states k []) (sym (place_before (length states) l i r.inside))
+
+word_after : (states : List (List Value)) (l i next : ℕ) (now after : List Value) → AreReadAt states l i next now after
+    → after ≡ get_or states (lasso_place (length states) l (i + 1)) []
+word_after states l i next now after r =
+    read_at states next after r.within r.after_is ∙ ap (λ k. get_or states k []) r.next_is
+
 pub atom_fits : (states : List (List Value)) (l : ℕ) (a : Proposition) (i next : ℕ) (now after : List Value)
-    → i < length states → next < length states
-    → next ≡ lasso_place (length states) l (i + 1) → now ≡ get_or states i now → after ≡ get_or states next after
+    → AreReadAt states l i next now after
     → ((k : ℕ) → IsModerateProposition (word states l k) (word states l (k + 1)) a)
     → IsModerateProposition (assignment now) (assignment after) a
-atom_fits states l a i next now after lt within e en ea fits =
-    let now_is : get_or states (lasso_place (length states) l i) [] ≡ now =
-    ap (λ k. get_or states k []) (place_before (length states) l i lt) ∙ sym (read_at states i now lt en) in
-    let after_is : get_or states (lasso_place (length states) l (i + 1)) [] ≡ after =
-    ap (λ k. get_or states k []) (sym e) ∙ sym (read_at states next after within ea) in
-    subst (λ x. IsModerateProposition (assignment now) (assignment x) a) after_is
-    (subst (λ x. IsModerateProposition (assignment x) (word states l (i + 1)) a) now_is (fits i))
+atom_fits states l a i next now after r fits =
+    subst (λ x. IsModerateProposition (assignment now) (assignment x) a) (sym (word_after states l i next now after r))
+    (subst (λ x. IsModerateProposition (assignment x) (word states l (i + 1)) a) (sym (word_now states l i next now after r)) (fits i))
 
 pub atom_more : (states : List (List Value)) (l : ℕ) (a : Proposition) (i next : ℕ) (now after : List Value)
     (xs ys : List Bool) (y : Bool)
-    → l < length states → length xs ≡ length states → i < length states → next < length states
-    → next ≡ lasso_place (length states) l (i + 1) → now ≡ get_or states i now → after ≡ get_or states next after
+    → l < length states → length xs ≡ length states → AreReadAt states l i next now after
     → y ≡ proposition_truth (assignment now) (assignment after) a
     → Filled (proposition_row a (get_or states l []) states) xs ys i
     → Filled (proposition_row a (get_or states l []) states) xs (set ys i y) (i + 1)
-atom_more states l a i next now after xs ys y inside len lt within e en ea ey f =
-    let now_is : now ≡ get_or states (lasso_place (length states) l i) [] =
-    read_at states i now lt en ∙ ap (λ k. get_or states k []) (sym (place_before (length states) l i lt)) in
-    let after_is : after ≡ get_or states (lasso_place (length states) l (i + 1)) [] =
-    read_at states next after within ea ∙ ap (λ k. get_or states k []) e in
+atom_more states l a i next now after xs ys y inside len r ey f =
+    let lt = r.inside in
     Filled-more (proposition_row a (get_or states l []) states) xs ys i y (omega (arith, len)) f
     (ey
-    ∙ (ap (λ x. proposition_truth (assignment x) (assignment after) a) now_is
-    ∙ (ap (λ x. proposition_truth (word states l i) (assignment x) a) after_is
+    ∙ (ap (λ x. proposition_truth (assignment x) (assignment after) a) (word_now states l i next now after r)
+    ∙ (ap (λ x. proposition_truth (word states l i) (assignment x) a) (word_after states l i next now after r)
     ∙ sym (proposition_on_word states l a inside i lt))))
 
 pub atom_end : (states : List (List Value)) (l : ℕ) (a : Proposition) (xs ys : List Bool) (n : ℕ)
