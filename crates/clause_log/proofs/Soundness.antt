@@ -16,7 +16,7 @@ use Rattle.clause_log.specs.declared.chain.Chain.{Chain}
 use Rattle.clause_log.specs.Derivations.{Resolves, Leads, Follows, clauses_before, EachFollows, EndsEmpty, Derives}
 use Rattle.clause_log.proofs.Lits.{lit_cases, has_head, has_tail}
 
-some_holds : (model : List Bool) (clause : List Lit) → clause_holds model clause ≡ true
+pub some_holds : (model : List Bool) (clause : List Lit) → clause_holds model clause ≡ true
     → (lit : Lit) × Contains clause lit × (lit_holds model lit ≡ true)
 some_holds model [] h = absurd (false≢true h)
 some_holds model (l ∷ ls) h =
@@ -25,7 +25,7 @@ some_holds model (l ∷ ls) h =
       | inr there ↦ let more = some_holds model ls there in (more.0, has_tail l ls more.0 more.1, more.2)
     ]
 
-holds_by : (model : List Bool) (clause : List Lit) (lit : Lit) → Contains clause lit → lit_holds model lit ≡ true
+pub holds_by : (model : List Bool) (clause : List Lit) (lit : Lit) → Contains clause lit → lit_holds model lit ≡ true
     → clause_holds model clause ≡ true
 holds_by model clause lit c h = list_any_at (lit_holds model) clause c.0 lit c.1 (ap (lit_holds model) c.2 ∙ h)
 
@@ -48,7 +48,7 @@ signs_apart false model v h k = not_true (get_or model v true) (true_there model
 not_both : (model : List Bool) (lit : Lit) → lit_holds model lit ≡ true → lit_holds model (opposite lit) ≡ true → ⊥
 not_both model lit h k = signs_apart lit.positive model lit.var h k
 
-resolvent_holds : (model : List Bool) (left right after : List Lit) (pivot : Lit) → Resolves left right pivot after
+pub resolvent_holds : (model : List Bool) (left right after : List Lit) (pivot : Lit) → Resolves left right pivot after
     → clause_holds model left ≡ true → clause_holds model right ≡ true → clause_holds model after ≡ true
 resolvent_holds model left right after pivot is hl hr =
     let l = some_holds model left hl in
@@ -61,7 +61,7 @@ resolvent_holds model left right after pivot is hl hr =
       | inr n ↦ holds_by model after l.0 ((is.resolvent l.0).1 (inl (l.1, n))) l.2
     ]
 
-one_holds : (model : List Bool) (clauses : List (List Lit)) (k : ℕ) → k < length clauses
+pub one_holds : (model : List Bool) (clauses : List (List Lit)) (k : ℕ) → k < length clauses
     → clauses_hold model clauses ≡ true → clause_holds model (get_or clauses k []) ≡ true
 one_holds model [] k low h = absurd (omega arith)
 one_holds model (c ∷ cs) zero low h = (and_parts (clause_holds model c) (clauses_hold model cs) h).0

@@ -15,6 +15,40 @@ use Rattle.cnf.proofs.ModelLaws.{clauses_hold-append, clauses_hold-take, lit_hol
 use Rattle.cnf.proofs.GateLaws.{and_means, and_fits, xor_means, xor_fits, majority_means, majority_fits}
 use Rattle.cnf.proofs.NumberLaws.{greater_compares, at_least, sum_adds}
 
+-- ---- facts that the lemmas share
+
+-- an input of a gate: a literal within the variables, and its opposite
+pub record IsInput (n : ℕ) (lit negation : Lit) : Type 0 where
+  pub known : lit.var < n
+  pub negated : negation ≡ opposite lit
+
+-- a gate of which no clause has come yet: its variable is the next, and the opposite of its literal is at hand
+pub record IsGateBegun (n m v : ℕ) (older mid : List (List Lit)) (negation : Lit) : Type 0 where
+  pub vars : m ≡ n + 1
+  pub next : v ≡ n
+  pub negated : negation ≡ opposite (literal v)
+  pub clauses : mid ≡ older
+
+-- a gate that has come whole: one variable more, its literal and all of its clauses
+pub record IsGateAdded (n m : ℕ) (older newer gate : List (List Lit)) (answer : Lit) : Type 0 where
+  pub vars : m ≡ n + 1
+  pub is_next : answer ≡ literal n
+  pub clauses : newer ≡ older ++ gate
+
+-- two rows of bits within the variables, of one length and not empty
+pub record AreRows (n : ℕ) (a b : List Lit) : Type 0 where
+  pub same : length a ≡ length b
+  pub some : 0 < length a
+  pub left : All (λ lit. lit.var < n) a
+  pub right : All (λ lit. lit.var < n) b
+
+-- the lowest places of two rows, and the places above them
+pub record AreLowest (a b : List Lit) (x y : Lit) (left right : List Lit) : Type 0 where
+  pub first : a ≡ x ∷ left
+  pub second : b ≡ y ∷ right
+
+-- ---- gates
+
 pub IsConservative_same : (n m : ℕ) (older newer : List (List Lit)) → m ≡ n → newer ≡ older
     → IsConservative n older m newer
 IsConservative_same n m older newer e f = rw (e, f) (IsConservative_refl n older)
@@ -33,19 +67,19 @@ and_gate_means n m older newer a b c la lb em en ec =
     (let w = is.vars in omega arith) (last_hold model older (and_clauses n a b) newer en is.holds)
 
 -- after a part of the first two clauses
-pub and_gate_begins : (n m v k : ℕ) (older mid newer : List (List Lit)) (a b nv : Lit) → a.var < n → b.var < n
-    → m ≡ n + 1 → v ≡ n → nv ≡ opposite (literal v) → mid ≡ older
-    → newer ≡ mid ++ take k ((nv ∷ a ∷ []) ∷ (nv ∷ b ∷ []) ∷ []) → IsConservative n older m newer
-and_gate_begins n m v k older mid newer a b nv la lb em ev env emid en =
-    rw (em, en, emid, env, ev) (IsConservative-defined n older (take 2 (and_clauses n a b)) k
-    (λ model e. let fit = and_fits n a b la lb model e in (fit.0, clauses_hold-take (model ++ fit.0 ∷ []) 2 (and_clauses n a b) fit.1)))
+pub and_gate_begins : (n m v k : ℕ) (older mid newer : List (List Lit)) (a b na nb nv : Lit) → IsInput n a na
+    → IsInput n b nb → IsGateBegun n m v older mid nv → newer ≡ mid ++ take k ((nv ∷ a ∷ []) ∷ (nv ∷ b ∷ []) ∷ [])
+    → IsConservative n older m newer
+and_gate_begins n m v k older mid newer a b na nb nv left right begun en =
+    rw (begun.vars, en, begun.clauses, begun.negated, begun.next) (IsConservative-defined n older (take 2 (and_clauses n a b)) k
+    (λ model e.
+    let fit = and_fits n a b left.known right.known model e in (fit.0, clauses_hold-take (model ++ fit.0 ∷ []) 2 (and_clauses n a b) fit.1)))
 
-pub and_gate_whole : (n v : ℕ) (older mid then newer : List (List Lit)) (a b na nb nv : Lit) → v ≡ n
-    → nv ≡ opposite (literal v) → na ≡ opposite a → nb ≡ opposite b → mid ≡ older
-    → then ≡ mid ++ (nv ∷ a ∷ []) ∷ (nv ∷ b ∷ []) ∷ [] → newer ≡ then ++ (literal v ∷ na ∷ nb ∷ []) ∷ []
-    → newer ≡ older ++ and_clauses n a b
-and_gate_whole n v older mid then newer a b na nb nv ev env ena enb emid et en =
-    en ∙ rw (et, emid, env, ena, enb, ev) (append_assoc older _ _)
+pub and_gate_whole : (n m v : ℕ) (older mid then newer : List (List Lit)) (a b na nb nv : Lit) → IsInput n a na
+    → IsInput n b nb → IsGateBegun n m v older mid nv → then ≡ mid ++ (nv ∷ a ∷ []) ∷ (nv ∷ b ∷ []) ∷ []
+    → newer ≡ then ++ (literal v ∷ na ∷ nb ∷ []) ∷ [] → newer ≡ older ++ and_clauses n a b
+and_gate_whole n m v older mid then newer a b na nb nv left right begun et en =
+    en ∙ rw (et, begun.clauses, begun.negated, left.negated, right.negated, begun.next) (append_assoc older _ _)
 
 pub gate_grows_whole : (n m : ℕ) (older newer gate : List (List Lit))
     → ((model : List Bool) → length model ≡ n → (value : Bool) × (clauses_hold (model ++ value ∷ []) gate ≡ true))
@@ -60,31 +94,35 @@ xor_gate_means n m older newer a b c la lb em en ec =
     (let w = is.vars in omega arith) (last_hold model older (xor_clauses n a b) newer en is.holds)
 
 -- after a part of the clauses
-pub xor_gate_begins : (n m v k : ℕ) (older mid newer : List (List Lit)) (a b na nb nv : Lit) → a.var < n → b.var < n
-    → m ≡ n + 1 → v ≡ n → nv ≡ opposite (literal v) → na ≡ opposite a → nb ≡ opposite b → mid ≡ older
+pub xor_gate_begins : (n m v k : ℕ) (older mid newer : List (List Lit)) (a b na nb nv : Lit) → IsInput n a na
+    → IsInput n b nb → IsGateBegun n m v older mid nv
     → newer ≡ mid ++ take k ((nv ∷ a ∷ b ∷ []) ∷ (nv ∷ na ∷ nb ∷ []) ∷ (literal v ∷ na ∷ b ∷ []) ∷ (literal v ∷ a ∷ nb ∷ []) ∷ [])
     → IsConservative n older m newer
-xor_gate_begins n m v k older mid newer a b na nb nv la lb em ev env ena enb emid en =
-    rw (em, en, emid, env, ena, enb, ev) (IsConservative-defined n older (xor_clauses n a b) k (xor_fits n a b la lb))
+xor_gate_begins n m v k older mid newer a b na nb nv left right begun en =
+    rw (begun.vars, en, begun.clauses, begun.negated, left.negated, right.negated, begun.next)
+    (IsConservative-defined n older (xor_clauses n a b) k (xor_fits n a b left.known right.known))
 
-pub majority_gate_begins : (n m v k : ℕ) (older mid newer : List (List Lit)) (a b c na nb nc nv : Lit) → a.var < n
-    → b.var < n → c.var < n → m ≡ n + 1 → v ≡ n → nv ≡ opposite (literal v) → na ≡ opposite a → nb ≡ opposite b
-    → nc ≡ opposite c → mid ≡ older
+pub xor_gate_whole : (n m v : ℕ) (older mid newer : List (List Lit)) (a b na nb nv : Lit) → IsInput n a na
+    → IsInput n b nb → IsGateBegun n m v older mid nv
+    → newer ≡ mid ++ (nv ∷ a ∷ b ∷ []) ∷ (nv ∷ na ∷ nb ∷ []) ∷ (literal v ∷ na ∷ b ∷ []) ∷ (literal v ∷ a ∷ nb ∷ []) ∷ [] → newer ≡ older ++ xor_clauses n a b
+xor_gate_whole n m v older mid newer a b na nb nv left right begun en =
+    en ∙ rw (begun.clauses, begun.negated, left.negated, right.negated, begun.next) refl
+
+-- after a part of the clauses
+pub majority_gate_begins : (n m v k : ℕ) (older mid newer : List (List Lit)) (a b c na nb nc nv : Lit) → IsInput n a na
+    → IsInput n b nb → IsInput n c nc → IsGateBegun n m v older mid nv
     → newer ≡ mid ++ take k ((nv ∷ a ∷ b ∷ []) ∷ (nv ∷ a ∷ c ∷ []) ∷ (nv ∷ b ∷ c ∷ []) ∷ (literal v ∷ na ∷ nb ∷ []) ∷ (literal v ∷ na ∷ nc ∷ []) ∷
     (literal v ∷ nb ∷ nc ∷ []) ∷ []) → IsConservative n older m newer
-majority_gate_begins n m v k older mid newer a b c na nb nc nv la lb lc em ev env ena enb enc emid en =
-    rw (em, en, emid, env, ena, enb, enc, ev) (IsConservative-defined n older (majority_clauses n a b c) k (majority_fits n a b c la lb lc))
+majority_gate_begins n m v k older mid newer a b c na nb nc nv first second third begun en =
+    rw (begun.vars, en, begun.clauses, begun.negated, first.negated, second.negated, third.negated, begun.next)
+    (IsConservative-defined n older (majority_clauses n a b c) k (majority_fits n a b c first.known second.known third.known))
 
-pub xor_gate_whole : (n v : ℕ) (older mid newer : List (List Lit)) (a b na nb nv : Lit) → v ≡ n
-    → nv ≡ opposite (literal v) → na ≡ opposite a → nb ≡ opposite b → mid ≡ older
-    → newer ≡ mid ++ (nv ∷ a ∷ b ∷ []) ∷ (nv ∷ na ∷ nb ∷ []) ∷ (literal v ∷ na ∷ b ∷ []) ∷ (literal v ∷ a ∷ nb ∷ []) ∷ [] → newer ≡ older ++ xor_clauses n a b
-xor_gate_whole n v older mid newer a b na nb nv ev env ena enb emid en = en ∙ rw (emid, env, ena, enb, ev) refl
-
-pub majority_gate_whole : (n v : ℕ) (older mid newer : List (List Lit)) (a b c na nb nc nv : Lit) → v ≡ n
-    → nv ≡ opposite (literal v) → na ≡ opposite a → nb ≡ opposite b → nc ≡ opposite c → mid ≡ older
+pub majority_gate_whole : (n m v : ℕ) (older mid newer : List (List Lit)) (a b c na nb nc nv : Lit) → IsInput n a na
+    → IsInput n b nb → IsInput n c nc → IsGateBegun n m v older mid nv
     → newer ≡ mid ++ (nv ∷ a ∷ b ∷ []) ∷ (nv ∷ a ∷ c ∷ []) ∷ (nv ∷ b ∷ c ∷ []) ∷ (literal v ∷ na ∷ nb ∷ []) ∷ (literal v ∷ na ∷ nc ∷ []) ∷
     (literal v ∷ nb ∷ nc ∷ []) ∷ [] → newer ≡ older ++ majority_clauses n a b c
-majority_gate_whole n v older mid newer a b c na nb nc nv ev env ena enb enc emid en = en ∙ rw (emid, env, ena, enb, enc, ev) refl
+majority_gate_whole n m v older mid newer a b c na nb nc nv first second third begun en =
+    en ∙ rw (begun.clauses, begun.negated, first.negated, second.negated, third.negated, begun.next) refl
 
 -- two and three literals within the variables
 pub within_two : (m : ℕ) (x y : Lit) → x.var < m → y.var < m → All (λ lit. lit.var < m) (x ∷ y ∷ [])
@@ -146,36 +184,38 @@ le_says model n (x ∷ left) (y ∷ right) some same room la lb h =
     ∙ ap not (greater_compares model n k x left y right (omega arith) (omega arith) (omega arith) la lb h)
     ∙ at_least (signed_number (lit_values model (x ∷ left))) (signed_number (lit_values model (y ∷ right)))
 
-pub le_means : (n m : ℕ) (older newer : List (List Lit)) (a b : List Lit) (answer greater : Lit) → length a ≡ length b
-    → 0 < length a → All (λ lit. lit.var < n) a → All (λ lit. lit.var < n) b
+pub le_means : (n m : ℕ) (older newer : List (List Lit)) (a b : List Lit) (answer greater : Lit) → AreRows n a b
     → m ≡ n + length a → greater ≡ literal (n + length a - 1) → answer ≡ opposite greater
     → newer ≡ older ++ le_clauses n a b
     → Represents m newer answer (λ model. int_le (signed_number (lit_values model a)) (signed_number (lit_values model b)))
-le_means n m older newer a b answer greater same some la lb em eg ea en =
+le_means n m older newer a b answer greater rows em eg ea en =
     λ model is.
     let wide : length model ≡ n + length a = is.vars ∙ em in
     ap (lit_holds model) (ea ∙ ap opposite eg)
-    ∙ le_says model n a b some same (omega arith)
-    (All-weaker (λ lit. lit.var < n) (λ lit. lit.var < length model) (λ lit h. omega arith) a la)
-    (All-weaker (λ lit. lit.var < n) (λ lit. lit.var < length model) (λ lit h. omega arith) b lb)
+    ∙ le_says model n a b rows.some rows.same (omega arith)
+    (All-weaker (λ lit. lit.var < n) (λ lit. lit.var < length model) (λ lit h. omega arith) a rows.left)
+    (All-weaker (λ lit. lit.var < n) (λ lit. lit.var < length model) (λ lit h. omega arith) b rows.right)
     (last_hold model older (le_clauses n a b) newer en is.holds)
 
 -- ---- sums
 
-pub sum_begins : (n v m : ℕ) (older now then : List (List Lit)) (a b : List Lit) (x y either carry : Lit) (left right : List Lit) → a ≡ x ∷ left
-    → b ≡ y ∷ right → v ≡ n + 1 → m ≡ v + 1 → either ≡ literal n → carry ≡ literal v → then ≡ older ++ xor_clauses n x y
-    → now ≡ then ++ and_clauses v x y → now ++ later_sum_clauses m either carry left right ≡ older ++ sum_clauses n a b
-sum_begins n v m older now then a b x y either carry left right ea eb ev em ee ec et en =
+pub sum_begins : (n v m : ℕ) (older now then : List (List Lit)) (a b : List Lit) (x y either carry : Lit) (left right : List Lit)
+    → AreLowest a b x y left right → IsGateAdded n v older then (xor_clauses n x y) either
+    → IsGateAdded v m then now (and_clauses v x y) carry
+    → now ++ later_sum_clauses m either carry left right ≡ older ++ sum_clauses n a b
+sum_begins n v m older now then a b x y either carry left right lowest differ both =
+    let ev : v ≡ n + 1 = differ.vars in
+    let em : m ≡ v + 1 = both.vars in
     let wide : m ≡ n + 2 = omega arith in
-    rw (en, et, ea, eb, wide, ee, ec, ev) (ap (λ l. l ++ later_sum_clauses (n + 2) (literal n) (literal (n + 1)) left right) (append_assoc older _ _)
-    ∙ append_assoc older _ _)
+    rw (both.clauses, differ.clauses, lowest.first, lowest.second, wide, differ.is_next, both.is_next, ev)
+    (ap (λ l. l ++ later_sum_clauses (n + 2) (literal n) (literal (n + 1)) left right) (append_assoc older _ _) ∙ append_assoc older _ _)
 
-pub sum_goes_on : (m m' : ℕ) (now later total : List (List Lit)) (a b left right : List Lit) (x y either carry either' carry' : Lit) → a ≡ x ∷ left
-    → b ≡ y ∷ right → m' ≡ m + 3 → either' ≡ literal m → carry' ≡ literal (m + 2)
+pub sum_goes_on : (m m' : ℕ) (now later total : List (List Lit)) (a b left right : List Lit) (x y either carry either' carry' : Lit)
+    → AreLowest a b x y left right → m' ≡ m + 3 → either' ≡ literal m → carry' ≡ literal (m + 2)
     → later ≡ now ++ (xor_clauses m x y ++ xor_clauses (m + 1) (literal m) carry ++ majority_clauses (m + 2) x y carry)
     → now ++ later_sum_clauses m either carry a b ≡ total → later ++ later_sum_clauses m' either' carry' left right ≡ total
-sum_goes_on m m' now later total a b left right x y either carry either' carry' ea eb em ee ec en et = rw (en, em, ee, ec)
-    (append_assoc now _ _ ∙ (rw (ea, eb) at et))
+sum_goes_on m m' now later total a b left right x y either carry either' carry' lowest em ee ec en et = rw (en, em, ee, ec)
+    (append_assoc now _ _ ∙ (rw (lowest.first, lowest.second) at et))
 
 pub sum_bits_go_on : (m m' : ℕ) (bits bits' total a left : List Lit) (x s : Lit) → a ≡ x ∷ left → m' ≡ m + 3
     → s ≡ literal (m + 1) → bits' ≡ bits ++ s ∷ [] → bits ++ later_sum_bits m a ≡ total
@@ -270,15 +310,15 @@ pub sum_bits_end : (m i : ℕ) (bits bits' total a : List Lit) (s : Lit) → len
     → bits' ≡ bits ++ s ∷ [] → bits ++ later_sum_bits m (drop i a) ≡ total → bits' ≡ total
 sum_bits_end m i bits bits' total a s pa es eb h = eb ∙ ap (λ l. bits ++ l ∷ []) es ∙ (rw (drop_past i a pa) at h)
 
-pub sum_means : (n m : ℕ) (older newer : List (List Lit)) (a b sum : List Lit) → length a ≡ length b → 0 < length a
-    → All (λ lit. lit.var < n) a → All (λ lit. lit.var < n) b → m ≡ n + 3 * length a → sum ≡ sum_bits n a
-    → newer ≡ older ++ sum_clauses n a b → (model : List Bool) → IsModel m newer model
+pub sum_means : (n m : ℕ) (older newer : List (List Lit)) (a b sum : List Lit) → AreRows n a b
+    → m ≡ n + 3 * length a → sum ≡ sum_bits n a → newer ≡ older ++ sum_clauses n a b → (model : List Bool)
+    → IsModel m newer model
     → signed_number (lit_values model sum) ≡ signed_number (lit_values model a) +ℤ signed_number (lit_values model b)
-sum_means n m older newer a b sum same some la lb em es en model is =
+sum_means n m older newer a b sum rows em es en model is =
     let wide : length model ≡ n + 3 * length a = is.vars ∙ em in
     ap (λ row. signed_number (lit_values model row)) es
-    ∙ sum_adds model n a b same some (omega arith)
-    (All_later n (length model) a (omega arith) la) (All_later n (length model) b (omega arith) lb)
+    ∙ sum_adds model n a b rows.same rows.some (omega arith)
+    (All_later n (length model) a (omega arith) rows.left) (All_later n (length model) b (omega arith) rows.right)
     (last_hold model older (sum_clauses n a b) newer en is.holds)
 
 pub length-sum_bits : (n : ℕ) (a : List Lit) → 0 < length a → length (sum_bits n a) ≡ length a + 1

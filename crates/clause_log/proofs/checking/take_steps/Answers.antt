@@ -6,8 +6,8 @@ use Rattle.clause_log.proofs.checking.take_steps.Goals as goal
 
 pub returns-then-not-resolve-clause-no : goal.returns-then-not-resolve-clause-no
 returns-then-not-resolve-clause-no c = λ h clause leads.
-    step_refused (clauses_by_number c.args.cnf.now c.args.log.now) (marked_lits c.loop-step.set) c.in-Some.clause.now (drop c.loop-step.step-index c.args.steps.now)
-    (drop (c.loop-step.step-index + 1) c.args.steps.now)
+    step_refused (clauses_by_number c.args.cnf.now c.args.log.now) (marked_lits c.loop-step.set) c.in-Some.clause.now
+    (drop c.loop-step.step-index c.args.steps.now) (drop (c.loop-step.step-index + 1) c.args.steps.now)
     (get_or c.args.steps.now c.loop-step.step-index no_pivot) clause
     (rest_at c.args.steps.now c.loop-step.step-index no_pivot c.loop-step-test.true) c.in-Some.ensures.1 (c.if-not-resolve.ensures.no refl)
     ((c.loop-step.invariant.leads clause).0 leads)

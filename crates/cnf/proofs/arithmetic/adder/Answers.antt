@@ -18,8 +18,9 @@ loop-i-init g c =
       differ = lit_below _ _ c.in_ok-differ.differ c.in_ok-differ.ensures.answer (omega (arith, c.in_ok-differ.ensures.vars, c.in_ok-carry.ensures.vars));
       carry = lit_below _ _ c.in_ok-carry.carry c.in_ok-carry.ensures.answer (omega (arith, c.in_ok-carry.ensures.vars));
       clauses = sum_begins _ _ _ _ _ (g.B.ClauseBase.clauses c.gate_xor.new.base) c.args.a.now c.args.b.now _ _ c.in_ok-differ.differ c.in_ok-carry.carry _ _
-          (first_of c.args.a.now no_lit c.requires.some) (first_of c.args.b.now no_lit some) c.in_ok-differ.ensures.vars c.in_ok-carry.ensures.vars
-          c.in_ok-differ.ensures.answer c.in_ok-carry.ensures.answer c.in_ok-differ.ensures.clauses c.in_ok-carry.ensures.clauses;
+          (record { first = first_of c.args.a.now no_lit c.requires.some; second = first_of c.args.b.now no_lit some })
+          (record { vars = c.in_ok-differ.ensures.vars; is_next = c.in_ok-differ.ensures.answer; clauses = c.in_ok-differ.ensures.clauses })
+          (record { vars = c.in_ok-carry.ensures.vars; is_next = c.in_ok-carry.ensures.answer; clauses = c.in_ok-carry.ensures.clauses });
       bits = sum_bits_begin _ _ c.new-sum.result _ c.args.a.now _ _ c.in_ok-differ.differ (first_of c.args.a.now no_lit c.requires.some)
           (omega (arith, c.in_ok-differ.ensures.vars, c.in_ok-carry.ensures.vars)) c.in_ok-differ.ensures.answer c.new-sum.ensures c.in_ok-push.ensures.ok;
       grows = IsConservative_trans _ _ _ _ _ _ c.gate_xor.ensures.grows c.gate_and.ensures.grows;
@@ -50,7 +51,7 @@ loop-i-preserved g c =
       carry = lit_below _ _ c.in_ok-place.place.carry c.in_ok-place.ensures.carry (omega (arith, c.in_ok-place.ensures.vars));
       clauses = sum_goes_on _ _ (g.B.ClauseBase.clauses c.loop-i.base) _ _ _ _ _ _ _ _ c.loop-i.differ c.loop-i.carry c.in_ok-place.place.either
           c.in_ok-place.place.carry
-          (place_of c.args.a.now c.loop-i.i no_lit c.loop-i-test.true) (place_of c.args.b.now c.loop-i.i no_lit within)
+          (record { first = place_of c.args.a.now c.loop-i.i no_lit c.loop-i-test.true; second = place_of c.args.b.now c.loop-i.i no_lit within })
           c.in_ok-place.ensures.vars c.in_ok-place.ensures.either c.in_ok-place.ensures.carry c.in_ok-place.ensures.clauses c.loop-i.invariant.clauses;
       bits = sum_bits_go_on _ _ c.loop-i.sum _ _ _ _ _ c.in_ok-place.place.sum (place_of c.args.a.now c.loop-i.i no_lit c.loop-i-test.true)
           c.in_ok-place.ensures.vars c.in_ok-place.ensures.sum c.in_ok-push-2.ensures.ok c.loop-i.invariant.bits;
@@ -89,7 +90,8 @@ returns-clause-vars g c =
 
 pub returns-clause-value : goal.returns-clause-value
 returns-clause-value g c =
-    sum_means _ _ _ _ c.args.a.now c.args.b.now _ c.requires.same c.requires.some c.requires.left c.requires.right
+    sum_means _ _ _ _ c.args.a.now c.args.b.now _
+    (record { same = c.requires.same; some = c.requires.some; left = c.requires.left; right = c.requires.right })
     (returns-clause-vars g c) (returns-clause-answer g c) (returns-clause-clauses g c)
 
 pub returns-clause-known : goal.returns-clause-known

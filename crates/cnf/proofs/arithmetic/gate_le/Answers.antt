@@ -48,7 +48,8 @@ returns-clause-value g c =
     let em : g.B.ClauseBase.vars c.loop-place.base ≡ g.B.ClauseBase.vars c.args.base.now + length c.args.a.now = c.loop-place.invariant.vars ∙ ap
     (λ k. g.B.ClauseBase.vars c.args.base.now + k) whole in
     let at : c.loop-place.greater.var ≡ g.B.ClauseBase.vars c.args.base.now + length c.args.a.now - 1 = omega (arith, em, c.loop-place.invariant.greater) in
-    le_means _ _ _ _ c.args.a.now c.args.b.now _ c.loop-place.greater c.requires.same c.requires.some c.requires.left c.requires.right em
+    le_means _ _ _ _ c.args.a.now c.args.b.now _ c.loop-place.greater
+    (record { same = c.requires.same; some = c.requires.some; left = c.requires.left; right = c.requires.right }) em
     (positive_at _ _ c.loop-place.invariant.positive at)
     c.negated.ensures
     (le_ends _ _ _ _ _ c.args.a.now c.args.b.now c.requires.same c.loop-place-test.false c.loop-place.invariant.clauses)

@@ -7,13 +7,28 @@ pub returns-in_err-add_all-clause-grows : goal.returns-in_err-add_all-clause-gro
 returns-in_err-add_all-clause-grows g c =
     xor_gate_begins _ _ c.in_ok-new_var.field-0 c.in_err-add_all.ensures.err.0 _ _ _ c.args.a c.args.b
     c.negated-not_a.result c.negated-not_b.result c.negated-not_c.result
-    c.requires.left c.requires.right (c.add_all.ensures.vars ∙ c.in_ok-new_var.ensures.ok) c.in_ok-new_var.ensures.number
-    c.negated-not_c.ensures c.negated-not_a.ensures c.negated-not_b.ensures c.new_var.ensures.clauses c.in_err-add_all.ensures.err.1
+    (record { known = c.requires.left; negated = c.negated-not_a.ensures })
+    (record { known = c.requires.right; negated = c.negated-not_b.ensures })
+    (record {
+      vars = c.add_all.ensures.vars ∙ c.in_ok-new_var.ensures.ok;
+      next = c.in_ok-new_var.ensures.number;
+      negated = c.negated-not_c.ensures;
+      clauses = c.new_var.ensures.clauses;
+    })
+    c.in_err-add_all.ensures.err.1
 
 pub returns-clause-grows : goal.returns-clause-grows
 returns-clause-grows g c =
     gate_grows_whole _ _ _ _ _ (xor_fits _ c.args.a c.args.b c.requires.left c.requires.right)
     (c.add_all.ensures.vars ∙ c.in_ok-new_var.ensures.ok)
-    (xor_gate_whole _ c.in_ok-new_var.field-0 _ (g.B.ClauseBase.clauses c.new_var.new.self) _ c.args.a c.args.b
-    c.negated-not_a.result c.negated-not_b.result c.negated-not_c.result c.in_ok-new_var.ensures.number
-    c.negated-not_c.ensures c.negated-not_a.ensures c.negated-not_b.ensures c.new_var.ensures.clauses c.in_ok-add_all.ensures.ok)
+    (xor_gate_whole _ _ c.in_ok-new_var.field-0 _ (g.B.ClauseBase.clauses c.new_var.new.self) _ c.args.a c.args.b
+    c.negated-not_a.result c.negated-not_b.result c.negated-not_c.result
+    (record { known = c.requires.left; negated = c.negated-not_a.ensures })
+    (record { known = c.requires.right; negated = c.negated-not_b.ensures })
+    (record {
+      vars = c.in_ok-new_var.ensures.ok;
+      next = c.in_ok-new_var.ensures.number;
+      negated = c.negated-not_c.ensures;
+      clauses = c.new_var.ensures.clauses;
+    })
+    c.in_ok-add_all.ensures.ok)
