@@ -96,7 +96,8 @@ xor_gate_means n m older newer a b c la lb em en ec =
 -- after a part of the clauses
 pub xor_gate_begins : (n m v k : ℕ) (older mid newer : List (List Lit)) (a b na nb nv : Lit) → IsInput n a na
     → IsInput n b nb → IsGateBegun n m v older mid nv
-    → newer ≡ mid ++ take k ((nv ∷ a ∷ b ∷ []) ∷ (nv ∷ na ∷ nb ∷ []) ∷ (literal v ∷ na ∷ b ∷ []) ∷ (literal v ∷ a ∷ nb ∷ []) ∷ [])
+    → newer ≡ mid ++ take k ((nv ∷ a ∷ b ∷ []) ∷ (nv ∷ na ∷ nb ∷ []) ∷ (literal v ∷ na ∷ b ∷ []) ∷
+    (literal v ∷ a ∷ nb ∷ []) ∷ [])
     → IsConservative n older m newer
 xor_gate_begins n m v k older mid newer a b na nb nv left right begun en =
     rw (begun.vars, en, begun.clauses, begun.negated, left.negated, right.negated, begun.next)
@@ -104,23 +105,26 @@ xor_gate_begins n m v k older mid newer a b na nb nv left right begun en =
 
 pub xor_gate_whole : (n m v : ℕ) (older mid newer : List (List Lit)) (a b na nb nv : Lit) → IsInput n a na
     → IsInput n b nb → IsGateBegun n m v older mid nv
-    → newer ≡ mid ++ (nv ∷ a ∷ b ∷ []) ∷ (nv ∷ na ∷ nb ∷ []) ∷ (literal v ∷ na ∷ b ∷ []) ∷ (literal v ∷ a ∷ nb ∷ []) ∷ [] → newer ≡ older ++ xor_clauses n a b
+    → newer ≡ mid ++ (nv ∷ a ∷ b ∷ []) ∷ (nv ∷ na ∷ nb ∷ []) ∷ (literal v ∷ na ∷ b ∷ []) ∷
+    (literal v ∷ a ∷ nb ∷ []) ∷ [] → newer ≡ older ++ xor_clauses n a b
 xor_gate_whole n m v older mid newer a b na nb nv left right begun en =
     en ∙ rw (begun.clauses, begun.negated, left.negated, right.negated, begun.next) refl
 
 -- after a part of the clauses
 pub majority_gate_begins : (n m v k : ℕ) (older mid newer : List (List Lit)) (a b c na nb nc nv : Lit) → IsInput n a na
     → IsInput n b nb → IsInput n c nc → IsGateBegun n m v older mid nv
-    → newer ≡ mid ++ take k ((nv ∷ a ∷ b ∷ []) ∷ (nv ∷ a ∷ c ∷ []) ∷ (nv ∷ b ∷ c ∷ []) ∷ (literal v ∷ na ∷ nb ∷ []) ∷ (literal v ∷ na ∷ nc ∷ []) ∷
-    (literal v ∷ nb ∷ nc ∷ []) ∷ []) → IsConservative n older m newer
+    → newer ≡ mid ++ take k ((nv ∷ a ∷ b ∷ []) ∷ (nv ∷ a ∷ c ∷ []) ∷ (nv ∷ b ∷ c ∷ []) ∷
+    (literal v ∷ na ∷ nb ∷ []) ∷ (literal v ∷ na ∷ nc ∷ []) ∷ (literal v ∷ nb ∷ nc ∷ []) ∷ [])
+    → IsConservative n older m newer
 majority_gate_begins n m v k older mid newer a b c na nb nc nv first second third begun en =
     rw (begun.vars, en, begun.clauses, begun.negated, first.negated, second.negated, third.negated, begun.next)
     (IsConservative-defined n older (majority_clauses n a b c) k (majority_fits n a b c first.known second.known third.known))
 
 pub majority_gate_whole : (n m v : ℕ) (older mid newer : List (List Lit)) (a b c na nb nc nv : Lit) → IsInput n a na
     → IsInput n b nb → IsInput n c nc → IsGateBegun n m v older mid nv
-    → newer ≡ mid ++ (nv ∷ a ∷ b ∷ []) ∷ (nv ∷ a ∷ c ∷ []) ∷ (nv ∷ b ∷ c ∷ []) ∷ (literal v ∷ na ∷ nb ∷ []) ∷ (literal v ∷ na ∷ nc ∷ []) ∷
-    (literal v ∷ nb ∷ nc ∷ []) ∷ [] → newer ≡ older ++ majority_clauses n a b c
+    → newer ≡ mid ++ (nv ∷ a ∷ b ∷ []) ∷ (nv ∷ a ∷ c ∷ []) ∷ (nv ∷ b ∷ c ∷ []) ∷
+    (literal v ∷ na ∷ nb ∷ []) ∷ (literal v ∷ na ∷ nc ∷ []) ∷ (literal v ∷ nb ∷ nc ∷ []) ∷ []
+    → newer ≡ older ++ majority_clauses n a b c
 majority_gate_whole n m v older mid newer a b c na nb nc nv first second third begun en =
     en ∙ rw (begun.clauses, begun.negated, first.negated, second.negated, third.negated, begun.next) refl
 
@@ -199,8 +203,8 @@ le_means n m older newer a b answer greater rows em eg ea en =
 
 -- ---- sums
 
-pub sum_begins : (n v m : ℕ) (older now then : List (List Lit)) (a b : List Lit) (x y either carry : Lit) (left right : List Lit)
-    → AreLowest a b x y left right → IsGateAdded n v older then (xor_clauses n x y) either
+pub sum_begins : (n v m : ℕ) (older now then : List (List Lit)) (a b : List Lit) (x y either carry : Lit)
+    (left right : List Lit) → AreLowest a b x y left right → IsGateAdded n v older then (xor_clauses n x y) either
     → IsGateAdded v m then now (and_clauses v x y) carry
     → now ++ later_sum_clauses m either carry left right ≡ older ++ sum_clauses n a b
 sum_begins n v m older now then a b x y either carry left right lowest differ both =
@@ -210,8 +214,9 @@ sum_begins n v m older now then a b x y either carry left right lowest differ bo
     rw (both.clauses, differ.clauses, lowest.first, lowest.second, wide, differ.is_next, both.is_next, ev)
     (ap (λ l. l ++ later_sum_clauses (n + 2) (literal n) (literal (n + 1)) left right) (append_assoc older _ _) ∙ append_assoc older _ _)
 
-pub sum_goes_on : (m m' : ℕ) (now later total : List (List Lit)) (a b left right : List Lit) (x y either carry either' carry' : Lit)
-    → AreLowest a b x y left right → m' ≡ m + 3 → either' ≡ literal m → carry' ≡ literal (m + 2)
+pub sum_goes_on : (m m' : ℕ) (now later total : List (List Lit)) (a b left right : List Lit)
+    (x y either carry either' carry' : Lit) → AreLowest a b x y left right → m' ≡ m + 3
+    → either' ≡ literal m → carry' ≡ literal (m + 2)
     → later ≡ now ++ (xor_clauses m x y ++ xor_clauses (m + 1) (literal m) carry ++ majority_clauses (m + 2) x y carry)
     → now ++ later_sum_clauses m either carry a b ≡ total → later ++ later_sum_clauses m' either' carry' left right ≡ total
 sum_goes_on m m' now later total a b left right x y either carry either' carry' lowest em ee ec en et = rw (en, em, ee, ec)
