@@ -1,0 +1,2 @@
+pub mod StrongFacts
+pub mod StrongSteps

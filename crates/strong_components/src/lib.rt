@@ -1,0 +1,8 @@
+//! Strongly connected components of a graph, told by ranks. Main function: `ranks_of`.
+#![tactic(auto)]
+
+mod strong;
+#[cfg(test)]
+mod tests;
+
+pub use strong::ranks_of;
