@@ -1,4 +1,4 @@
-//! Strongly connected components of a graph, told by ranks. Main function: `ranks_of`.
+//! Strongly connected components of a graph, told by ranks. Main function: `ranks_of`. It touches memory alone.
 #![tactic(auto)]
 
 mod strong;

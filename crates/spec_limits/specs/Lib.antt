@@ -1,0 +1,2 @@
+pub mod LimitFaults
+pub mod Counting

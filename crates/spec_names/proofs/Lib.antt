@@ -1,0 +1,13 @@
+pub mod Lists
+pub mod Building
+pub mod NotingFacts
+pub mod TableLemmas
+pub mod InterfaceFacts
+pub mod PairFacts
+pub mod ConnectionFacts
+pub mod RefinementFacts
+pub mod EnumeratorFacts
+pub mod ContainmentFacts
+pub mod WholeFacts
+pub mod Gathered
+pub mod TablesAt

@@ -1,0 +1,7 @@
+use Rattle.std.proofs.Common.{map}
+use Rattle.spec_names.specs.Words.{word_at, word_of_item}
+use Rattle.spec_names.proofs.Building.{Built}
+use Rattle.spec_names.proofs.words.interface_words.Given as goal
+
+abbrev pub invariant-loop-item : goal.invariant-loop-item
+invariant-loop-item l = Built (word_of_item l.kind) l.items (map word_at l.words.items) l.item-index

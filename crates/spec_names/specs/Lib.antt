@@ -1,0 +1,14 @@
+pub mod Scopes
+pub mod NamesFaults
+pub mod Noting
+pub mod Words
+pub mod Uses
+pub mod Pairs
+pub mod Tables
+pub mod Interfaces
+pub mod Components
+pub mod Refinements
+pub mod Enumerators
+pub mod Containment
+pub mod Directory
+pub mod Whole
