@@ -1,6 +1,5 @@
-pub mod Names
-pub mod FirstForm
-pub mod Tables
-pub mod Stands
-pub mod Resolving
+pub mod Standing
+pub mod FirstFaults
+pub mod StateSources
 pub mod Laws
+pub mod Assembling

@@ -1,10 +1,21 @@
-//! A law about trees of the first form, for callers that cite it. It has no code.
+//! Laws about what trees stand for, for callers that cite them. None of these functions has code.
 
-ghost use Rattle.architecture.specs.Laws.{FirstFormIsPropositional};
+ghost use Rattle.architecture.specs.Laws.{StandsIsUnique, TextsHaveStateSources, ResolvedIsWellFormed};
+ghost use Rattle.architecture.specs.Laws.{ResolvedIsConnected};
 
-/// What a tree of the first form stands for is a specification over truth values: well formed, with
-/// boolean ports, and with propositional formulas and connections. A caller that wants the law calls
-/// this; there is nothing to run.
-pub fn first_form_is_propositional()
-    ensures { FirstFormIsPropositional }
+/// A tree of a text stands for one specification alone. (A law without code: who calls this may rely on it.)
+pub fn stands_is_unique()
+    ensures { StandsIsUnique }
+{}
+
+/// The connections of every text of the grammar read one valuation alone. (A law without code.)
+pub fn texts_have_state_sources()
+    ensures { TextsHaveStateSources }
+{}
+
+/// What a tree without a fault stands for is well formed, where its connections read one valuation alone; and each
+/// connection drives a port that is there, with a source of its type that reads free ports. (A law without code.)
+pub fn resolved_is_well_formed()
+    ensures well { ResolvedIsWellFormed }
+    ensures connected { ResolvedIsConnected }
 {}

@@ -1,32 +1,19 @@
-//! From the tree of a text to the specification that it stands for: the first form of trees (`is_first_form`), and
-//! `resolve`. The types of a specification are those of `spec_model`, and are named here too. It touches memory alone.
+//! From the tree of a text to the specification that it stands for, or to the first fault of its names, types and
+//! limits: `resolve`. The types of a specification are those of `spec_model`, and are named here too. It touches
+//! memory alone.
 #![tactic(auto)]
 
-mod first_form;
-mod first_form_expressions;
-mod first_form_free;
-mod first_form_interfaces;
-mod first_form_refinement;
-mod first_form_subs;
+mod components;
+mod items;
 mod laws;
-mod names;
-mod resolve_formula;
-mod resolve_interface;
-mod resolve_items;
-mod resolve_refinement;
-mod resolve_scope;
+mod numbers;
+mod resolving;
 #[cfg(test)]
-mod resolve_tests;
-mod resolve_tree;
-mod resolve_uses;
+mod tests;
 mod text_places;
 
-pub use first_form::is_first_form;
-pub use first_form_interfaces::{Declared, NameKind};
-pub use first_form_refinement::RefinementName;
-pub use laws::first_form_is_propositional;
-pub use names::{NameTable, PairTable};
-pub use resolve_tree::resolve;
+pub use laws::{resolved_is_well_formed, stands_is_unique, texts_have_state_sources};
+pub use resolving::resolve;
 pub use spec_model::{
     Component, Components, Contract, Contracts, FreePort, FreePorts, Item, ItemParts, Items,
     OwnPort, OwnPorts, PortUses, Source, Spec, Sub, Subs, Target, Uses, Wire, Wires,

@@ -1,8 +1,8 @@
-//! Places of names in a text, counted on from one to the next.
+//! Places of names in a text, counted on from one to the next. Main function: `Cursor::to`. It touches nothing outside.
 
 ghost use Rattle.std.specs.Prelude.{◌≡◌, ◌++◌, ◌≤◌, [], ◌∷◌, take, IfOk};
 ghost use Rattle.oss_base.specs.Places.{place_after};
-ghost use Rattle.architecture.specs.Resolving.{IsAt, IsNext};
+ghost use Rattle.architecture.specs.Assembling.{IsAt, IsNext};
 
 use oss_base::Place;
 use port_types::NoMemory;

@@ -1,4 +1,4 @@
-use Rattle.spec_model.specs.Propositional.{IsPropositional, IsPropositionalSpec}
+use Rattle.spec_model.specs.Propositional.{IsPropositional, IsPropositionalContract, IsPropositionalLevel}
 use Rattle.std.proofs.Common.{◌≡◌, ℕ, zero, suc, ◌+◌, ◌<◌, Bool, true, false, not, ◌&&◌, ◌||◌, cond, List, [], ◌∷◌, ◌++◌, map, length, get_or, take}
 use Rattle.std.proofs.Common.{Option, Some, None, option_map, slice_get, IfSome, refl, sym, ap, ◌∙◌, inl, inr, arith}
 use Rattle.std.proofs.lemmas.Bool.{false≢true}
@@ -23,7 +23,7 @@ use Rattle.spec_model.specs.declared.item.Item.{Item}
 use Rattle.spec_model.specs.declared.wire.Target.{Target}
 use Rattle.spec_model.specs.Expressions.{ReadsBelow}
 use Rattle.port_types.specs.Types.{IsOfType}
-use Rattle.spec_model.specs.Architecture.{ports_of, ports_at, contracts_of, sub_component, port_at, free_targets}
+use Rattle.spec_model.specs.Architecture.{ports_of, ports_at, contracts_of, sub_component, port_at, free_targets, IsWellFormed}
 use Rattle.connections.specs.Drivers.{driver_rows}
 use Rattle.connections.specs.Substitution.{readings, state_truth, substituted}
 use Rattle.connections.specs.Laws.{StateTruthDecides}
@@ -37,7 +37,8 @@ use Rattle.typed_ltl.specs.declared.lasso.Verdict.{Verdict}
 use Rattle.obligations.specs.Verdicts.{OnePositionDecides, LevelsAreDecided, IsVerdict, AreAssumesVerdicts}
 use Rattle.obligations.proofs.Among.{Among, among_append_left, among_append_right, among_map, below_length}
 use Rattle.obligations.proofs.Composed.{assumption_reads, guarantee_reads}
-use Rattle.obligations.proofs.Valued.{substituted_truth, substituted_propositional, propositional_reading, own_gives, sub_gives, table_values, state_from}
+use Rattle.obligations.proofs.Valued.{WiresArePropositional, substituted_truth, substituted_propositional, propositional_reading, own_gives, sub_gives, table_values}
+use Rattle.obligations.proofs.Valued.{state_from}
 
 -- From the table to the questions, and from valuations to traces.
 
@@ -48,37 +49,61 @@ propositional_option : (o : Option Contract) (part : Contract → Ltl)
 propositional_option None part h = tt
 propositional_option (Some k) part h = h k refl
 
-assumption_propositional : (spec : Spec) → IsPropositionalSpec spec → (c : ComponentId) (d : ContractId)
+assumption_propositional : (spec : Spec) (c : ComponentId) (d : ContractId) → IsPropositionalContract spec c d
     → IsPropositional (assumption spec c d)
-assumption_propositional spec ok c d =
-    propositional_option (slice_get (contracts_of spec c) d.0) (λ (k : Contract). meaning k.assume) (λ k e. (ok.contracts c d.0 k e).0)
+assumption_propositional spec c d ok =
+    propositional_option (slice_get (contracts_of spec c) d.0) (λ (k : Contract). meaning k.assume) (λ k e. (ok k e).0)
 
-guarantee_propositional : (spec : Spec) → IsPropositionalSpec spec → (c : ComponentId) (d : ContractId)
+guarantee_propositional : (spec : Spec) (c : ComponentId) (d : ContractId) → IsPropositionalContract spec c d
     → IsPropositional (guarantee spec c d)
-guarantee_propositional spec ok c d =
-    propositional_option (slice_get (contracts_of spec c) d.0) (λ (k : Contract). meaning k.guarantee) (λ k e. (ok.contracts c d.0 k e).1)
+guarantee_propositional spec c d ok =
+    propositional_option (slice_get (contracts_of spec c) d.0) (λ (k : Contract). meaning k.guarantee) (λ k e. (ok k e).1)
 
 part_option : (spec : Spec) (o : Option ComponentId) (f : ComponentId → Ltl)
-    → ((b : ComponentId) → IsPropositional (f b)) → ((b : ComponentId) → ReadsBelow (length (ports_of spec b)) (f b))
+    → ((b : ComponentId) → o ≡ Some b → IsPropositional (f b)) → ((b : ComponentId) → ReadsBelow (length (ports_of spec b)) (f b))
     → IsPropositional (option_map_or f o form.True) × ReadsBelow (length (option_map_or (ports_of spec) o [])) (option_map_or f o form.True)
 part_option spec None f h l = (tt, tt)
-part_option spec (Some b) f h l = (h b, l b)
+part_option spec (Some b) f h l = (h b refl, l b)
+
+-- a contract that the level lists
+pub record IsPartOf (item : Item) (part : Part) : Type 0 where
+  pub place : ℕ
+  pub at : slice_get item.parts place ≡ Some part
+
+-- a level over truth values of a well formed specification
+pub record IsGood (spec : Spec) (item : Item) : Type 0 where
+  pub well : IsWellFormed spec
+  pub level : IsPropositionalLevel spec item
+
+part_assumption_good : (spec : Spec) (item : Item) → IsGood spec item → (part : Part) → IsPartOf item part
+    → IsPropositional (part_assumption spec item.component part)
+    × ReadsBelow (length (ports_at spec item.component (Some part.0))) (part_assumption spec item.component part)
+part_assumption_good spec item ok part is =
+    part_option spec (sub_component spec item.component part.0) (λ (b : ComponentId). assumption spec b part.1)
+    (λ b e. assumption_propositional spec b part.1 (ok.level.listed is.place part b is.at e)) (λ b. assumption_reads spec ok.well b part.1)
+
+part_guarantee_good : (spec : Spec) (item : Item) → IsGood spec item → (part : Part) → IsPartOf item part
+    → IsPropositional (part_guarantee spec item.component part)
+    × ReadsBelow (length (ports_at spec item.component (Some part.0))) (part_guarantee spec item.component part)
+part_guarantee_good spec item ok part is =
+    part_option spec (sub_component spec item.component part.0) (λ (b : ComponentId). guarantee spec b part.1)
+    (λ b e. guarantee_propositional spec b part.1 (ok.level.listed is.place part b is.at e)) (λ b. guarantee_reads spec ok.well b part.1)
 
 -- the truth values of the table are those of the level's formulas
 
-own_truth : (spec : Spec) → IsPropositionalSpec spec → (c : ComponentId) (free : List Bool) (f : Ltl)
+own_truth : (spec : Spec) (c : ComponentId) → WiresArePropositional spec c → (free : List Bool) (f : Ltl)
     → IsPropositional f → ReadsBelow (length (ports_of spec c)) f
     → boolean_truth (get_or (table_values spec c free) 0 []) f ≡ state_truth (boolean free) (substituted (readings spec c None) f)
-own_truth spec ok c free f h l =
+own_truth spec c ok free f h l =
     substituted_truth (length (ports_of spec c)) (readings spec c None) free (get_or (table_values spec c free) 0 [])
-    (own_gives spec c free (ok.wires c)) f h l
+    (own_gives spec c free ok) f h l
 
-sub_truth : (spec : Spec) → IsPropositionalSpec spec → (c : ComponentId) (free : List Bool) (s : SubId) (f : Ltl)
+sub_truth : (spec : Spec) (c : ComponentId) → WiresArePropositional spec c → (free : List Bool) (s : SubId) (f : Ltl)
     → IsPropositional f → ReadsBelow (length (ports_at spec c (Some s))) f
     → boolean_truth (get_or (table_values spec c free) (s.0 + 1) []) f ≡ state_truth (boolean free) (substituted (readings spec c (Some s)) f)
-sub_truth spec ok c free s f h l =
+sub_truth spec c ok free s f h l =
     substituted_truth (length (ports_at spec c (Some s))) (readings spec c (Some s)) free (get_or (table_values spec c free) (s.0 + 1) [])
-    (sub_gives spec c free (ok.wires c) s) f h l
+    (sub_gives spec c free ok s) f h l
 
 and_same : (a b c d : Bool) → a ≡ c → b ≡ d → (a && b) ≡ (c && d)
 and_same a b c d e f = cc
@@ -90,36 +115,40 @@ and_true : (a : Bool) → (a && true) ≡ a
 and_true true = refl
 and_true false = refl
 
-part_meets : (spec : Spec) → IsPropositionalSpec spec → (item : Item) (free : List Bool) (part : Part)
+part_meets : (spec : Spec) (item : Item) → IsGood spec item → (free : List Bool) (part : Part) → IsPartOf item part
     → meets (part_truths spec item.component (table_values spec item.component free) part) ≡ state_truth (boolean free) (listed_normal_form spec item part)
-part_meets spec ok item free part =
-    let a = part_option spec (sub_component spec item.component part.0) (λ (b : ComponentId). assumption spec b part.1)
-    (λ b. assumption_propositional spec ok b part.1) (λ b. assumption_reads spec ok.well b part.1) in
-    let g = part_option spec (sub_component spec item.component part.0) (λ (b : ComponentId). guarantee spec b part.1)
-    (λ b. guarantee_propositional spec ok b part.1) (λ b. guarantee_reads spec ok.well b part.1) in
-    implies_same _ _ _ _ (sub_truth spec ok item.component free part.0 (part_assumption spec item.component part) a.0 a.1)
-    (sub_truth spec ok item.component free part.0 (part_guarantee spec item.component part) g.0 g.1)
+part_meets spec item ok free part is =
+    let a = part_assumption_good spec item ok part is in
+    let g = part_guarantee_good spec item ok part is in
+    implies_same _ _ _ _ (sub_truth spec item.component ok.level.wires free part.0 (part_assumption spec item.component part) a.0 a.1)
+    (sub_truth spec item.component ok.level.wires free part.0 (part_guarantee spec item.component part) g.0 g.1)
 
-part_assume : (spec : Spec) → IsPropositionalSpec spec → (item : Item) (free : List Bool) (part : Part)
+part_assume : (spec : Spec) (item : Item) → IsGood spec item → (free : List Bool) (part : Part) → IsPartOf item part
     → (part_truths spec item.component (table_values spec item.component free) part).assume ≡ state_truth (boolean free) (listed_assumption spec item part)
-part_assume spec ok item free part =
-    let a = part_option spec (sub_component spec item.component part.0) (λ (b : ComponentId). assumption spec b part.1)
-    (λ b. assumption_propositional spec ok b part.1) (λ b. assumption_reads spec ok.well b part.1) in
-    sub_truth spec ok item.component free part.0 (part_assumption spec item.component part) a.0 a.1
+part_assume spec item ok free part is =
+    let a = part_assumption_good spec item ok part is in
+    sub_truth spec item.component ok.level.wires free part.0 (part_assumption spec item.component part) a.0 a.1
 
-level_assume : (spec : Spec) → IsPropositionalSpec spec → (item : Item) (free : List Bool)
+level_assume : (spec : Spec) (item : Item) → IsGood spec item → (free : List Bool)
     → boolean_truth (get_or (table_values spec item.component free) 0 []) (assumption spec item.component item.contract) ≡ state_truth (boolean free)
     (level_assumption spec item)
-level_assume spec ok item free =
-    own_truth spec ok item.component free (assumption spec item.component item.contract)
-    (assumption_propositional spec ok item.component item.contract) (assumption_reads spec ok.well item.component item.contract)
+level_assume spec item ok free =
+    own_truth spec item.component ok.level.wires free (assumption spec item.component item.contract)
+    (assumption_propositional spec item.component item.contract ok.level.refined) (assumption_reads spec ok.well item.component item.contract)
 
-level_guaranteed : (spec : Spec) → IsPropositionalSpec spec → (item : Item) (free : List Bool)
+level_guaranteed : (spec : Spec) (item : Item) → IsGood spec item → (free : List Bool)
     → boolean_truth (get_or (table_values spec item.component free) 0 []) (guarantee spec item.component item.contract) ≡ state_truth (boolean free)
     (level_guarantee spec item)
-level_guaranteed spec ok item free =
-    own_truth spec ok item.component free (guarantee spec item.component item.contract)
-    (guarantee_propositional spec ok item.component item.contract) (guarantee_reads spec ok.well item.component item.contract)
+level_guaranteed spec item ok free =
+    own_truth spec item.component ok.level.wires free (guarantee spec item.component item.contract)
+    (guarantee_propositional spec item.component item.contract ok.level.refined) (guarantee_reads spec ok.well item.component item.contract)
+
+-- all of a list are contracts that the level lists
+abbrev pub ArePartsOf : Item → List Part → Type 0
+ArePartsOf item parts = (n : ℕ) (part : Part) → slice_get parts n ≡ Some part → IsPartOf item part
+
+all_listed : (item : Item) → ArePartsOf item item.parts
+all_listed item n part e = record { place = n; at = e }
 
 and_assoc : (a b c : Bool) → ((a && b) && c) ≡ (a && (b && c))
 and_assoc true b c = refl
@@ -132,19 +161,20 @@ breaks-append bs (e ∷ q) r =
     ap (λ (b : Bool). cond e.1 (state_truth (boolean bs) e.0) (not (state_truth (boolean bs) e.0)) && b) h
     ∙ sym (and_assoc (cond e.1 (state_truth (boolean bs) e.0) (not (state_truth (boolean bs) e.0))) (breaks bs q) (breaks bs r))
 
-all_parts : (spec : Spec) → IsPropositionalSpec spec → (item : Item) (free : List Bool) (parts : List Part)
+all_parts : (spec : Spec) (item : Item) → IsGood spec item → (free : List Bool) (parts : List Part) → ArePartsOf item parts
     → list_all meets (map (part_truths spec item.component (table_values spec item.component free)) parts)
     ≡ breaks free (map (λ (part : Part). (listed_normal_form spec item part, true)) parts)
-all_parts spec ok item free [] = refl
-all_parts spec ok item free (part ∷ parts) = and_same _ _ _ _ (part_meets spec ok item free part) (all_parts spec ok item free parts)
+all_parts spec item ok free [] are = refl
+all_parts spec item ok free (part ∷ parts) are =
+    and_same _ _ _ _ (part_meets spec item ok free part (are 0 part refl)) (all_parts spec item ok free parts (λ n p e. are (suc n) p e))
 
-pub entails_line : (spec : Spec) → IsPropositionalSpec spec → (item : Item) (free : List Bool)
+pub entails_line : (spec : Spec) (item : Item) → IsGood spec item → (free : List Bool)
     → breaks_entails (table_line spec item (driver_rows spec item.component) free) ≡ breaks free (entails spec item)
-entails_line spec ok item free =
+entails_line spec item ok free =
     let l = breaks-append free (map (λ (part : Part). (listed_normal_form spec item part, true)) item.parts)
     ((level_assumption spec item, true) ∷ ((level_guarantee spec item, false) ∷ [])) in
-    and_same _ _ _ _ (all_parts spec ok item free item.parts)
-    (and_same _ _ _ _ (level_assume spec ok item free) (ap not (level_guaranteed spec ok item free) ∙ sym (and_true _))) ∙ sym l
+    and_same _ _ _ _ (all_parts spec item ok free item.parts (all_listed item))
+    (and_same _ _ _ _ (level_assume spec item ok free) (ap not (level_guaranteed spec item ok free) ∙ sym (and_true _))) ∙ sym l
 
 filter_step : (spec : Spec) (item : Item) (free : List Bool) (b m : Bool) (part : Part) (rest : List Part) (z : Bool)
     → m ≡ state_truth (boolean free) (listed_normal_form spec item part)
@@ -153,14 +183,15 @@ filter_step : (spec : Spec) (item : Item) (free : List Bool) (b m : Bool) (part 
 filter_step spec item free true m part rest z e f = and_same _ _ _ _ e f
 filter_step spec item free false m part rest z e f = f
 
-other_parts : (spec : Spec) → IsPropositionalSpec spec
-    → (item : Item) (free : List Bool) (part : Part) (parts : List Part)
+other_parts : (spec : Spec) (item : Item) → IsGood spec item
+    → (free : List Bool) (part : Part) (parts : List Part) → ArePartsOf item parts
     → others_meet part parts (map (part_truths spec item.component (table_values spec item.component free)) parts)
     ≡ breaks free (map (λ (p : Part). (listed_normal_form spec item p, true)) (filter (is_of_another_sub part) parts))
-other_parts spec ok item free part [] = refl
-other_parts spec ok item free part (p ∷ parts) =
+other_parts spec item ok free part [] are = refl
+other_parts spec item ok free part (p ∷ parts) are =
     filter_step spec item free (is_of_another_sub part p) (meets (part_truths spec item.component (table_values spec item.component free) p)) p
-    (filter (is_of_another_sub part) parts) _ (part_meets spec ok item free p) (other_parts spec ok item free part parts)
+    (filter (is_of_another_sub part) parts) _ (part_meets spec item ok free p (are 0 p refl))
+    (other_parts spec item ok free part parts (λ n q e. are (suc n) q e))
 
 assume_at_map : (f : Part → Truths) (parts : List Part) (n : ℕ) (part : Part) → slice_get parts n ≡ Some part
     → assume_at (map f parts) n ≡ (f part).assume
@@ -168,15 +199,16 @@ assume_at_map f [] n part e = cc
 assume_at_map f (p ∷ parts) zero part e = let same : p ≡ part = cc in ap (λ (q : Part). (f q).assume) same
 assume_at_map f (p ∷ parts) (suc n) part e = assume_at_map f parts n part e
 
-pub assumes_line : (spec : Spec) → IsPropositionalSpec spec → (item : Item) (free : List Bool) (n : ℕ) (part : Part)
+pub assumes_line : (spec : Spec) (item : Item) → IsGood spec item → (free : List Bool) (n : ℕ) (part : Part)
     → slice_get item.parts n ≡ Some part
     → breaks_assumes item.parts n part (table_line spec item (driver_rows spec item.component) free) ≡ breaks free (assumes spec item part)
-assumes_line spec ok item free n part e =
+assumes_line spec item ok free n part e =
     let f = assume_at_map (part_truths spec item.component (table_values spec item.component free)) item.parts n part e in
     let l = breaks-append free (map (λ (p : Part). (listed_normal_form spec item p, true)) (filter (is_of_another_sub part) item.parts))
     ((listed_assumption spec item part, false) ∷ []) in
-    and_same _ _ _ _ (level_assume spec ok item free)
-    (and_same _ _ _ _ (other_parts spec ok item free part item.parts) (ap not (f ∙ part_assume spec ok item free part) ∙ sym (and_true _)) ∙ sym l)
+    and_same _ _ _ _ (level_assume spec item ok free)
+    (and_same _ _ _ _ (other_parts spec item ok free part item.parts (all_listed item))
+    (ap not (f ∙ part_assume spec item ok free part (record { place = n; at = e })) ∙ sym (and_true _)) ∙ sym l)
 
 -- a search in the table is a search among the valuations
 
@@ -322,59 +354,70 @@ propositional-append : (n : ℕ) (q r : Question) → ArePropositional n q → A
 propositional-append n [] r h k = k
 propositional-append n (e ∷ q) r h k = (h.0, h.1, propositional-append n q r h.2 k)
 
-propositional_map : (n : ℕ) (f : Part → Ltl) → ((part : Part) → IsPropositional (f part) × ReadsBelow n (f part))
-    → (parts : List Part)
-    → ArePropositional n (map (λ (part : Part). (f part, true)) parts)
-propositional_map n f h [] = tt
-propositional_map n f h (p ∷ parts) = ((h p).0, (h p).1, propositional_map n f h parts)
+propositional_kept : (n : ℕ) (f : Part → Ltl) (kept : Bool) (part : Part) (rest : List Part) → IsPropositional (f part) × ReadsBelow n (f part)
+    → ArePropositional n (map (λ (p : Part). (f p, true)) rest) → ArePropositional n (map (λ (p : Part). (f p, true)) (cond kept (part ∷ rest) rest))
+propositional_kept n f true part rest h k = (h.0, h.1, k)
+propositional_kept n f false part rest h k = k
 
-listed_propositional : (spec : Spec) → IsPropositionalSpec spec → (item : Item) (part : Part)
+propositional_filter : (n : ℕ) (f : Part → Ltl) (keeps : Part → Bool) (parts : List Part)
+    → ((k : ℕ) (part : Part) → slice_get parts k ≡ Some part → IsPropositional (f part) × ReadsBelow n (f part))
+    → ArePropositional n (map (λ (part : Part). (f part, true)) (filter keeps parts))
+propositional_filter n f keeps [] h = tt
+propositional_filter n f keeps (p ∷ parts) h =
+    propositional_kept n f (keeps p) p (filter keeps parts) (h 0 p refl) (propositional_filter n f keeps parts (λ k q e. h (suc k) q e))
+
+propositional_map : (n : ℕ) (f : Part → Ltl) (parts : List Part)
+    → ((k : ℕ) (part : Part) → slice_get parts k ≡ Some part → IsPropositional (f part) × ReadsBelow n (f part))
+    → ArePropositional n (map (λ (part : Part). (f part, true)) parts)
+propositional_map n f [] h = tt
+propositional_map n f (p ∷ parts) h = ((h 0 p refl).0, (h 0 p refl).1, propositional_map n f parts (λ k q e. h (suc k) q e))
+
+listed_propositional : (spec : Spec) (item : Item) → IsGood spec item → (part : Part) → IsPartOf item part
     → (IsPropositional (listed_normal_form spec item part) × ReadsBelow (length (free_targets spec item.component)) (listed_normal_form spec item part))
     × (IsPropositional (listed_assumption spec item part) × ReadsBelow (length (free_targets spec item.component)) (listed_assumption spec item part))
-listed_propositional spec ok item part =
+listed_propositional spec item ok part is =
     let c = item.component in
     let n = length (free_targets spec c) in
     let m = length (ports_at spec c (Some part.0)) in
-    let r = propositional_reading spec c (ok.wires c) (Some part.0) in
-    let a = part_option spec (sub_component spec c part.0) (λ (b : ComponentId). assumption spec b part.1)
-    (λ b. assumption_propositional spec ok b part.1) (λ b. assumption_reads spec ok.well b part.1) in
-    let g = part_option spec (sub_component spec c part.0) (λ (b : ComponentId). guarantee spec b part.1)
-    (λ b. guarantee_propositional spec ok b part.1) (λ b. guarantee_reads spec ok.well b part.1) in
+    let r = propositional_reading spec c ok.level.wires (Some part.0) in
+    let a = part_assumption_good spec item ok part is in
+    let g = part_guarantee_good spec item ok part is in
     let x = substituted_propositional m n (readings spec c (Some part.0)) r (part_assumption spec c part) a.0 a.1 in
     let y = substituted_propositional m n (readings spec c (Some part.0)) r (part_guarantee spec c part) g.0 g.1 in
     (((x.0, y.0), (x.1, y.1)), x)
 
-level_propositional : (spec : Spec) → IsPropositionalSpec spec → (item : Item)
+level_propositional : (spec : Spec) (item : Item) → IsGood spec item
     → (IsPropositional (level_assumption spec item) × ReadsBelow (length (free_targets spec item.component)) (level_assumption spec item))
     × (IsPropositional (level_guarantee spec item) × ReadsBelow (length (free_targets spec item.component)) (level_guarantee spec item))
-level_propositional spec ok item =
+level_propositional spec item ok =
     let c = item.component in
     let n = length (free_targets spec c) in
     let m = length (ports_of spec c) in
-    let r = propositional_reading spec c (ok.wires c) None in (
-      substituted_propositional m n (readings spec c None) r (assumption spec c item.contract) (assumption_propositional spec ok c item.contract)
-          (assumption_reads spec ok.well c item.contract),
-      substituted_propositional m n (readings spec c None) r (guarantee spec c item.contract) (guarantee_propositional spec ok c item.contract)
-          (guarantee_reads spec ok.well c item.contract),
+    let r = propositional_reading spec c ok.level.wires None in (
+      substituted_propositional m n (readings spec c None) r (assumption spec c item.contract)
+          (assumption_propositional spec c item.contract ok.level.refined) (assumption_reads spec ok.well c item.contract),
+      substituted_propositional m n (readings spec c None) r (guarantee spec c item.contract)
+          (guarantee_propositional spec c item.contract ok.level.refined) (guarantee_reads spec ok.well c item.contract),
     )
 
-entails_propositional : (spec : Spec) → IsPropositionalSpec spec → (item : Item)
+entails_propositional : (spec : Spec) (item : Item) → IsGood spec item
     → ArePropositional (length (free_targets spec item.component)) (entails spec item)
-entails_propositional spec ok item =
-    let l = level_propositional spec ok item in
-    propositional-append _ _ _ (propositional_map _ (listed_normal_form spec item) (λ part. (listed_propositional spec ok item part).0) item.parts)
+entails_propositional spec item ok =
+    let l = level_propositional spec item ok in
+    propositional-append _ _ _
+    (propositional_map _ (listed_normal_form spec item) item.parts (λ n part e. (listed_propositional spec item ok part (record { place = n; at = e })).0))
     (l.0.0, l.0.1, (l.1.0, l.1.1, tt))
 
-assumes_propositional : (spec : Spec) → IsPropositionalSpec spec → (item : Item) (part : Part)
+assumes_propositional : (spec : Spec) (item : Item) → IsGood spec item → (part : Part) → IsPartOf item part
     → ArePropositional (length (free_targets spec item.component)) (assumes spec item part)
-assumes_propositional spec ok item part =
-    let l = level_propositional spec ok item in
-    let p = (listed_propositional spec ok item part).1 in (
+assumes_propositional spec item ok part is =
+    let l = level_propositional spec item ok in
+    let p = (listed_propositional spec item ok part is).1 in (
       l.0.0,
       l.0.1,
       propositional-append _ _ _
-          (propositional_map _ (listed_normal_form spec item) (λ other. (listed_propositional spec ok item other).0)
-          (filter (is_of_another_sub part) item.parts))
+          (propositional_filter _ (listed_normal_form spec item) (is_of_another_sub part) item.parts
+          (λ n other e. (listed_propositional spec item ok other (record { place = n; at = e })).0))
           (p.0, p.1, tt),
     )
 
@@ -394,54 +437,44 @@ state_boolean bs (suc m) k = (false, refl)
 boolean_fits : (t : PortType) (v : Value) (b : Bool) → t ≡ kind.Bool → v ≡ value.Bool b → IsOfType t v
 boolean_fits t v b e f = rw e (rw f tt)
 
-kind_in : (spec : Spec) → IsPropositionalSpec spec → (o : Option ComponentId) (k : ℕ) (port : OwnPort)
-    → slice_get (option_map_or (ports_of spec) o []) k ≡ Some port → port.kind ≡ kind.Bool
-kind_in spec ok None k port e = cc
-kind_in spec ok (Some b) k port e = ok.ports b k port e
-
-kind_at : (spec : Spec) → IsPropositionalSpec spec → (c : ComponentId) (s : Option SubId) (k : ℕ) (port : OwnPort)
-    → slice_get (ports_at spec c s) k ≡ Some port → port.kind ≡ kind.Bool
-kind_at spec ok c None k port e = ok.ports c k port e
-kind_at spec ok c (Some s) k port e = kind_in spec ok (sub_component spec c s) k port e
-
 port_fits : (o : Option OwnPort) (v : Value) (b : Bool) → ((port : OwnPort) → o ≡ Some port → port.kind ≡ kind.Bool)
     → v ≡ value.Bool b
     → IfSome o (λ (port : OwnPort). IsOfType port.kind v)
 port_fits None v b h e = tt
 port_fits (Some port) v b h e = boolean_fits port.kind v b (h port refl) e
 
-target_fits : (spec : Spec) → IsPropositionalSpec spec → (c : ComponentId) (o : Option Target) (v : Value) (b : Bool)
-    → v ≡ value.Bool b
-    → IfSome o (λ t. IfSome (port_at spec c t) (λ (port : OwnPort). IsOfType port.kind v))
-target_fits spec ok c None v b e = tt
-target_fits spec ok c (Some t) v b e = port_fits (port_at spec c t) v b (λ port f. kind_at spec ok c t.sub t.port.0 port f) e
+target_fits : (spec : Spec) (item : Item) → IsPropositionalLevel spec item → (o : Option Target) (v : Value) (b : Bool) → v ≡ value.Bool b
+    → IfSome o (λ t. IfSome (port_at spec item.component t) (λ (port : OwnPort). IsOfType port.kind v))
+target_fits spec item ok None v b e = tt
+target_fits spec item ok (Some t) v b e = port_fits (port_at spec item.component t) v b (λ port f. ok.ports t.sub t.port.0 port f) e
 
-typed_lasso : (spec : Spec) → IsPropositionalSpec spec → (c : ComponentId) (bs : List Bool)
-    → IsFreeTrace spec c (word (boolean_values bs ∷ []) 0)
-typed_lasso spec ok c bs i k =
+typed_lasso : (spec : Spec) (item : Item) → IsPropositionalLevel spec item → (bs : List Bool)
+    → IsFreeTrace spec item.component (word (boolean_values bs ∷ []) 0)
+typed_lasso spec item ok bs i k =
     let v = state_boolean bs (lasso_place 1 0 i) k in
-    target_fits spec ok c (slice_get (free_targets spec c) k) (word (boolean_values bs ∷ []) 0 i k) v.0 v.1
+    target_fits spec item ok (slice_get (free_targets spec item.component) k) (word (boolean_values bs ∷ []) 0 i k) v.0 v.1
 
-decides : StateTruthDecides → (spec : Spec) → IsPropositionalSpec spec → (item : Item) (q : Question)
+decides : StateTruthDecides → (spec : Spec) (item : Item) → IsPropositionalLevel spec item → (q : Question)
     → ArePropositional (length (free_targets spec item.component)) q → OnePositionDecides spec item q
-decides law spec ok item q p = record {
+decides law spec item ok q p = record {
   valid = λ none w typed meets.
       (let n = length (free_targets spec item.component) in
       let bs = truths_from (w 0) 0 n in
       let miss = none_passes (λ (b : List Bool). breaks b q) (valuations n) bs none (among_valuations bs n (length-truths_from (w 0) 0 n)) in
       let hit = meets_breaks law w bs n (λ k l. let z : 0 + k ≡ k = omega arith in sym (rw z at (truths_from_at (w 0) 0 n k l))) q p meets in
       false≢true (sym miss ∙ hit));
-  typed = λ bs found. typed_lasso spec ok item.component bs;
+  typed = λ bs found. typed_lasso spec item ok bs;
   broken = λ bs found.
       breaks_meets law (word (boolean_values bs ∷ []) 0) bs (length (free_targets spec item.component)) (λ k l. refl) q p
       (some_passes (λ (b : List Bool). breaks b q) (valuations (length (free_targets spec item.component))) bs found);
 }
 
 pub levels_are_decided : StateTruthDecides → LevelsAreDecided
-levels_are_decided law spec item ok = (
-  decides law spec ok item (entails spec item) (entails_propositional spec ok item),
-  λ part. decides law spec ok item (assumes spec item part) (assumes_propositional spec ok item part),
-)
+levels_are_decided law spec item well level =
+    let ok : IsGood spec item = record { well = well; level = level } in (
+      decides law spec item level (entails spec item) (entails_propositional spec item ok),
+      λ n part e. decides law spec item level (assumes spec item part) (assumes_propositional spec item ok part (record { place = n; at = e })),
+    )
 
 at_place : (xs : List Part) (i : ℕ) (x : Part) → slice_get xs i ≡ Some x → get_or xs i x ≡ x
 at_place [] i x e = cc
@@ -462,30 +495,30 @@ pub open_verdict : (o q : Option (List Bool)) (v : Verdict) → o ≡ q → IsVe
 open_verdict o q v e h = rw (← e) h
 
 -- the verdict of the entails question
-pub entails_verdict : (spec : Spec) → IsPropositionalSpec spec
-    → (item : Item) (n : ℕ) (table : List TableLine) (v : Verdict)
+pub entails_verdict : (spec : Spec) (item : Item) → IsGood spec item
+    → (n : ℕ) (table : List TableLine) (v : Verdict)
     → n ≡ length (free_targets spec item.component)
     → table ≡ map (table_line spec item (driver_rows spec item.component)) (valuations n)
     → IsVerdict (option_map (λ (row : TableLine). row.free) (find breaks_entails table)) v
     → IsVerdict (first_breaking (length (free_targets spec item.component)) (entails spec item)) v
-entails_verdict spec ok item n table v e f h =
+entails_verdict spec item ok n table v e f h =
     let g = find_line breaks_entails (λ (bs : List Bool). breaks bs (entails spec item)) (table_line spec item (driver_rows spec item.component))
-    (entails_line spec ok item) (λ bs. refl) (valuations n) in
+    (entails_line spec item ok) (λ bs. refl) (valuations n) in
     open_verdict _ _ v (ap (λ (t : List TableLine). option_map (λ (row : TableLine). row.free) (find breaks_entails t)) f
     ∙ g ∙ ap (λ (m : ℕ). first_breaking m (entails spec item)) e) h
 
 -- the verdict of an assumes question
-pub assumes_verdict : (spec : Spec) → IsPropositionalSpec spec
-    → (item : Item) (n : ℕ) (table : List TableLine) (v : Verdict)
+pub assumes_verdict : (spec : Spec) (item : Item) → IsGood spec item
+    → (n : ℕ) (table : List TableLine) (v : Verdict)
     → n ≡ length (free_targets spec item.component)
     → table ≡ map (table_line spec item (driver_rows spec item.component)) (valuations n)
     → (place : ℕ) (part : Part) → slice_get item.parts place ≡ Some part
     → IsVerdict (option_map (λ (row : TableLine). row.free) (find (breaks_assumes item.parts place part) table)) v
     → IsVerdict (first_breaking (length (free_targets spec item.component)) (assumes spec item part)) v
-assumes_verdict spec ok item n table v e f place part at h =
+assumes_verdict spec item ok n table v e f place part at h =
     let g = find_line (breaks_assumes item.parts place part) (λ (bs : List Bool). breaks bs (assumes spec item part))
     (table_line spec item (driver_rows spec item.component))
-    (λ bs. assumes_line spec ok item bs place part at) (λ bs. refl) (valuations n) in
+    (λ bs. assumes_line spec item ok bs place part at) (λ bs. refl) (valuations n) in
     open_verdict _ _ v (ap (λ (t : List TableLine). option_map (λ (row : TableLine). row.free) (find (breaks_assumes item.parts place part) t)) f
     ∙ g ∙ ap (λ (m : ℕ). first_breaking m (assumes spec item part)) e) h
 

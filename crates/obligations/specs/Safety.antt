@@ -1,5 +1,5 @@
 -- What the verdicts say of the whole system.
-use Rattle.spec_model.specs.Propositional.{IsPropositionalSpec}
+use Rattle.spec_model.specs.Propositional.{HasPropositionalLevels}
 use Rattle.std.specs.Prelude.{◌≡◌, ℕ, List, [], ◌∷◌, Some, slice_get}
 use Rattle.spec_model.specs.declared.spec.Spec.{Spec}
 use Rattle.spec_model.specs.declared.item.Item.{Item}
@@ -18,6 +18,6 @@ abbrev pub AllAreProved : Spec → Type 0
 AllAreProved spec = (n : ℕ) (item : Item) → slice_get spec.items n ≡ Some item
     → (vs : List Verdict) × AreVerdicts spec item vs × AreProved vs
 
--- Where all questions of a specification over truth values are proved, the system is safe.
+-- Where all levels of a specification are over truth values, and all their questions are proved, the system is safe.
 abbrev pub ProvedSystemsAreSafe : Type 0
-ProvedSystemsAreSafe = (spec : Spec) → IsPropositionalSpec spec → AllAreProved spec → IsSafe spec
+ProvedSystemsAreSafe = (spec : Spec) → HasPropositionalLevels spec → AllAreProved spec → IsSafe spec

@@ -1,20 +1,11 @@
--- Specifications over truth values, and the verdicts of their questions.
-use Rattle.spec_model.specs.Propositional.{IsPropositionalSpec}
+-- The verdicts of the questions of levels over truth values.
 use Rattle.std.specs.Prelude.{◌≡◌, ℕ, Bool, true, false, List, [], ◌∷◌, length, Option, Some, None, slice_get}
-use Rattle.oss_base.specs.declared.ids.ComponentId.{ComponentId}
-use Rattle.port_types.specs.declared.types.PortType.TheVariants as kind
 use Rattle.spec_model.specs.declared.spec.Spec.{Spec}
 use Rattle.spec_model.specs.declared.item.Item.{Item}
-use Rattle.spec_model.specs.declared.port.OwnPort.{OwnPort}
-use Rattle.spec_model.specs.declared.contract.Contract.{Contract}
-use Rattle.spec_model.specs.declared.wire.Wire.{Wire}
-use Rattle.spec_model.specs.declared.wire.Source.{Source}
-use Rattle.spec_model.specs.declared.wire.Source.TheVariants as source
-use Rattle.spec_model.specs.Expressions.{ReadsBelow}
-use Rattle.spec_model.specs.Architecture.{ports_of, contracts_of, wires_of, free_targets, IsWellFormed}
+use Rattle.spec_model.specs.Architecture.{free_targets, IsWellFormed}
+use Rattle.spec_model.specs.Propositional.{IsPropositionalLevel}
 use Rattle.typed_ltl.specs.declared.lasso.Verdict.{Verdict}
 use Rattle.typed_ltl.specs.declared.lasso.Verdict.TheVariants as verdict
-use Rattle.typed_ltl.specs.Formulas.{meaning}
 use Rattle.typed_ltl.specs.Traces.{word}
 use Rattle.obligations.specs.Levels.{Part, Question, entails, assumes, IsFreeTrace, IsValid, IsBrokenBy}
 use Rattle.obligations.specs.Valuations.{boolean_values, breaks, first_breaking}
@@ -42,9 +33,8 @@ AreVerdicts spec item [] = ⊥
 AreVerdicts spec item (v ∷ vs) =
     IsVerdict (least_breaking spec item (entails spec item)) v × AreAssumesVerdicts spec item item.parts vs
 
--- The questions of a specification over truth values are decided at one position: a question that no
--- valuation breaks is valid, and the lasso of a valuation that breaks it gives each free port a value
--- of its type, and breaks it.
+-- A question is decided at one position: where no valuation breaks it it is valid, and the lasso of a
+-- valuation that breaks it gives each free port a value of its type, and breaks it.
 pub record OnePositionDecides (spec : Spec) (item : Item) (q : Question) : Type 0 where
   pub valid : least_breaking spec item q ≡ None → IsValid spec item.component q
   pub typed :
@@ -52,13 +42,16 @@ pub record OnePositionDecides (spec : Spec) (item : Item) (q : Question) : Type 
       → IsFreeTrace spec item.component (word (boolean_values bs ∷ []) 0)
   pub broken : (bs : List Bool) → least_breaking spec item q ≡ Some bs → IsBrokenBy q (boolean_values bs ∷ []) 0
 
--- the questions of a level are decided by single valuations
+-- the questions of a level are decided by single valuations: of its entails question, and of the assumes question of
+-- each listed contract
 abbrev pub IsDecidedLevel : Spec → Item → Type 0
 IsDecidedLevel spec item = OnePositionDecides spec item (entails spec item)
-    × ((part : Part) → OnePositionDecides spec item (assumes spec item part))
+    × ((n : ℕ) (part : Part) → slice_get item.parts n ≡ Some part → OnePositionDecides spec item (assumes spec item part))
 
+-- The questions of a level over truth values are decided at one position.
 abbrev pub LevelsAreDecided : Type 0
-LevelsAreDecided = (spec : Spec) (item : Item) → IsPropositionalSpec spec → IsDecidedLevel spec item
+LevelsAreDecided = (spec : Spec) (item : Item) → IsWellFormed spec → IsPropositionalLevel spec item
+    → IsDecidedLevel spec item
 
 -- One list of truth values stands before another of the same length: at the first place where they
 -- differ it has false.

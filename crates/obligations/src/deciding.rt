@@ -1,7 +1,8 @@
 //! The verdicts of a level over truth values: the least line of its table that breaks a question. It goes away when
 //! questions are decided by searches.
 
-ghost use Rattle.spec_model.specs.Propositional.{IsPropositionalSpec};
+ghost use Rattle.spec_model.specs.Architecture.{IsWellFormed};
+ghost use Rattle.spec_model.specs.Propositional.{IsPropositionalLevel};
 ghost use Rattle.std.specs.Prelude.{◌≡◌, ◌∷◌, [], ◌<◌, IfOk, Some, length, find, slice_get};
 ghost use Rattle.std.specs.Option.{option_copied, option_map};
 ghost use Rattle.std.specs.List.{list_all};
@@ -152,10 +153,11 @@ fn assumes_verdict(
 }
 
 /// The verdicts of a level: of its entails question, then of the assumes questions in the order of the
-/// list. Each formula of the level is valued once at each valuation. Where the specification does not
-/// speak of truth values alone, nothing is said of the answer.
+/// list. Each formula of the level is valued once at each valuation. Where the level does not speak of
+/// truth values alone, nothing is said of the answer.
 pub fn verdicts(alloc: Global, spec: &Spec, item: &Item) -> Result<Items<Verdict>, NoMemory>
-    ensures { IfOk result (λ vs. IsPropositionalSpec spec.now → AreVerdicts spec.now item.now vs) }
+    ensures { IfOk result (λ vs. IsWellFormed spec.now → IsPropositionalLevel spec.now item.now
+        → AreVerdicts spec.now item.now vs) }
 {
     let drivers = port_drivers(alloc, spec, item.component)?;
     let table = lines(alloc, spec, item, drivers.rows.as_slice(), drivers.free)?;

@@ -14,8 +14,8 @@ pub fn contracts_compose()
     connections::substitution_keeps_truth();
 }
 
-/// Questions over truth values are decided at one position: one that no valuation breaks is valid, and
-/// the lasso of a valuation that breaks it breaks it.
+/// The questions of a level over truth values are decided at one position: one that no valuation breaks is
+/// valid, and the lasso of a valuation that breaks it breaks it.
 pub fn levels_are_decided()
     ensures { LevelsAreDecided }
 {
@@ -28,9 +28,9 @@ pub fn first_is_least()
     ensures { FirstIsLeast }
 {}
 
-/// Where all questions of a specification over truth values are proved, each system trace whose
-/// unrefined reached contracts hold, and whose environment meets the assumption of a contract of the
-/// system, meets its guarantee and every reached assumption.
+/// Where all levels of a specification are over truth values, and all their questions are proved, each
+/// system trace whose unrefined reached contracts hold, and whose environment meets the assumption of a
+/// contract of the system, meets its guarantee and every reached assumption.
 pub fn proved_systems_are_safe()
     ensures { ProvedSystemsAreSafe }
 {

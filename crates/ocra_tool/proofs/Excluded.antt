@@ -1,7 +1,7 @@
 use Rattle.std.specs.Prelude.{if◌then◌else◌}
 use Rattle.std.specs.List.{list_any}
 use Rattle.oss_io.specs.Outside.{Rose}
-use Rattle.std.proofs.Common.{Bool, true, false, true≢false, rules, ◌≡◌, ℕ, ◌<◌, ◌≤◌, ◌⊎◌, List, length, Option, Some, None, Result, Ok, Err, IfOk, IfSome}
+use Rattle.std.proofs.Common.{Bool, true, false, true≢false, rules, ◌≡◌, ℕ, ◌<◌, ◌≤◌, ◌⊎◌, List, length, Option, Some, None, Result, Ok, Err, IfOk, IfErr, IfSome, option_map}
 use Rattle.std.proofs.Common.{refl, subst, sym, ap, ◌∙◌, arith}
 use Rattle.std.proofs.Math.Logic.{inl, inr}
 use Rattle.oss_base.specs.declared.fault.Fault.{Fault}
@@ -11,7 +11,6 @@ use Rattle.oss_base.specs.declared.fault.Stop.TheVariants as stops
 use Rattle.oss_lexer.specs.Laws.{OneTokenList, TokensWithoutFault}
 use Rattle.oss_syntax.specs.declared.token.Token.{Token}
 use Rattle.oss_syntax.specs.declared.component.TreeComponent.{TreeComponent}
-use Rattle.oss_syntax.specs.Laws.{TreesAreDistinct}
 use Rattle.oss_syntax.specs.Tokens.{AreTokens, IsFirstFault}
 use Rattle.oss_syntax.specs.Terminals.{terminals_of}
 use Rattle.oss_syntax.specs.Texts.{IsText}
@@ -22,75 +21,92 @@ use Rattle.oss_base.specs.Limits.{most_bytes}
 use Rattle.ocra_tool.specs.declared.outcome.Outcome.{Outcome}
 use Rattle.ocra_tool.specs.declared.outcome.Outcome.TheVariants as outcome
 use Rattle.ocra_tool.specs.Words.{Task, CheckFile}
-use Rattle.ocra_tool.specs.Outcomes.{Means, IsReportOf, NoneUndecided, file_of}
+use Rattle.ocra_tool.specs.Outcomes.{Means, Reports, NoneUndecided, file_of}
 use Rattle.ocra_tool.specs.Statuses.{IsDone}
 use Rattle.report.specs.declared.answers.Answer.{Answer}
 use Rattle.report.specs.Answers.{status, is_refuted, is_undecided}
 use Rattle.ocra_tool.proofs.Decided.{all_decided}
 use Rattle.spec_model.specs.declared.spec.Spec.{Spec}
-use Rattle.architecture.specs.FirstForm.{FirstForm}
-use Rattle.architecture.specs.Stands.{Stands, Refuses}
-use Rattle.spec_model.specs.Propositional.{IsPropositionalSpec}
-use Rattle.architecture.specs.Laws.{FirstFormIsPropositional}
+use Rattle.architecture.specs.FirstFaults.{tree_site, tree_fault, fault_at, Refuses}
+use Rattle.architecture.specs.Standing.{Stands}
+use Rattle.architecture.specs.Laws.{StandsIsUnique}
+use Rattle.spec_model.specs.Propositional.{HasPropositionalLevels}
 use Rattle.obligations.specs.Verdicts.{LevelsAreDecided}
-use Rattle.report.specs.AllAnswers.{SuccessIsSafe}
+use Rattle.report.specs.AllAnswers.{AreAnswers, AnswersAreUnique, SuccessIsSafe}
+use Rattle.report.specs.CheckTexts.{check_text}
 use Rattle.ocra_tool.specs.declared.outcome.Report.{Report}
-use Rattle.ocra_tool.specs.Decided.{IsChecked}
+use Rattle.port_types.specs.declared.memory.NoMemory.{NoMemory}
+use Rattle.ocra_tool.specs.Decided.{IsReportOf, IsChecked}
 use Rattle.obligations.specs.Systems.{IsSafe}
 use Rattle.ocra_tool.specs.Answers.{OfFile}
-use Rattle.ocra_tool.specs.Laws.{AcceptedHasNoFault}
-use Rattle.ocra_tool.specs.Files.{IsTreeOf, IsSoleTreeOf, IsSystemOf, Accepted, Refused, IsFaultOf, IsSizeFault, IsLexingFault, IsSyntaxFault, IsNotBuilt}
-use Rattle.ocra_tool.specs.Files.{at_start}
+use Rattle.ocra_tool.specs.Laws.{AcceptedHasNoFault, BuiltIsPropositional}
+use Rattle.ocra_tool.specs.NotBuilt.{is_built}
+use Rattle.ocra_tool.specs.Files.{IsTreeOf, IsSoleTreeOf, IsSpecOf, IsSystemOf, Accepted, Refused, IsFaultOf, IsSizeFault, IsLexingFault, IsSyntaxFault}
+use Rattle.ocra_tool.specs.Files.{IsTreeFault, IsNotBuilt, at_start}
 
 too_long : (bytes : List ℕ) → most_bytes < length bytes → length bytes ≤ most_bytes → ⊥
 too_long bytes long short = omega (arith, long, short)
 
 no_size_fault : (bytes : List ℕ) (fault : Fault) (a : Accepted bytes) → IsSizeFault bytes fault → ⊥
-no_size_fault bytes fault a f = too_long bytes f.long a.1.short
+no_size_fault bytes fault a f = too_long bytes f.long a.1.tree.short
 
 no_lexing_fault : TokensWithoutFault → (bytes : List ℕ) (fault : Fault) (a : Accepted bytes)
     → IsLexingFault bytes fault → ⊥
-no_lexing_fault without bytes fault a f = without bytes a.1.tokens fault a.1.cut f.first
+no_lexing_fault without bytes fault a f = without bytes a.1.tree.tokens fault a.1.tree.cut f.first
 
 no_syntax_fault : OneTokenList → (bytes : List ℕ) (fault : Fault) (a : Accepted bytes) → IsSyntaxFault bytes fault → ⊥
 no_syntax_fault one bytes fault a f =
-    f.no_text (component_trees a.0) (subst (λ (ts : List Token). IsText (terminals_of bytes ts) (component_trees a.0))
-    (one bytes a.1.tokens f.tokens a.1.cut f.cut) a.1.text)
+    f.no_text a.1.components (subst (λ (ts : List Token). IsText (terminals_of bytes ts) a.1.components)
+    (one bytes a.1.tree.tokens f.tokens a.1.tree.cut f.cut) a.1.tree.text)
 
-no_other : (bytes : List ℕ) (fault : Fault) (a : Accepted bytes) → IsNotBuilt bytes fault → ⊥
-no_other bytes fault a f = f.other a.0 a.1 a.2
+no_tree_fault : (bytes : List ℕ) (fault : Fault) (a : Accepted bytes) → IsTreeFault bytes fault → ⊥
+no_tree_fault bytes fault a f =
+    let same : a.1.components ≡ f.components = f.tree.sole a.1.components a.1.tree in
+    let none : tree_fault bytes f.components ≡ None = ap (tree_fault bytes) (sym same) ∙ ap (option_map (fault_at bytes)) a.1.of.faultless in
+    let both : None ≡ Some fault = sym none ∙ f.first in
+    cc
 
-no_fault : OneTokenList → TokensWithoutFault → (bytes : List ℕ) (fault : Fault) (a : Accepted bytes)
-    → IsFaultOf bytes fault → ⊥
-no_fault one without bytes fault a (inl f) = no_size_fault bytes fault a f
-no_fault one without bytes fault a (inr (inl f)) = no_lexing_fault without bytes fault a f
-no_fault one without bytes fault a (inr (inr (inl f))) = no_syntax_fault one bytes fault a f
-no_fault one without bytes fault a (inr (inr (inr f))) = no_other bytes fault a f
+no_other : StandsIsUnique → (bytes : List ℕ) (fault : Fault) (a : Accepted bytes) → IsNotBuilt bytes fault → ⊥
+no_other unique bytes fault a f =
+    let same : a.1.components ≡ f.components = f.tree.sole a.1.components a.1.tree in
+    let specs : a.0 ≡ f.spec = unique bytes f.components a.0 f.spec
+    (subst (λ (all : List Component). Stands bytes all a.0) same a.1.of.stands) f.of.stands in
+    true≢false (sym a.1.built ∙ ap (λ (s : Spec). is_built s a.1.components) specs ∙ ap (is_built f.spec) same ∙ f.unbuilt)
 
-pub accepted_has_no_fault : OneTokenList → TokensWithoutFault → (bytes : List ℕ) → Accepted bytes → Refused bytes → ⊥
-accepted_has_no_fault one without bytes a r = no_fault one without bytes r.0 a r.1
+-- what excludes faults
+pub record Excluding : Type 0 where
+  pub one : OneTokenList
+  pub without : TokensWithoutFault
+  pub unique : StandsIsUnique
+
+no_fault : Excluding → (bytes : List ℕ) (fault : Fault) (a : Accepted bytes) → IsFaultOf bytes fault → ⊥
+no_fault by bytes fault a (inl f) = no_size_fault bytes fault a f
+no_fault by bytes fault a (inr (inl f)) = no_lexing_fault by.without bytes fault a f
+no_fault by bytes fault a (inr (inr (inl f))) = no_syntax_fault by.one bytes fault a f
+no_fault by bytes fault a (inr (inr (inr (inl f)))) = no_tree_fault bytes fault a f
+no_fault by bytes fault a (inr (inr (inr (inr f)))) = no_other by.unique bytes fault a f
+
+pub accepted_has_no_fault : Excluding → AcceptedHasNoFault
+accepted_has_no_fault by bytes a r = no_fault by bytes r.0 a r.1
 
 -- What reading answers, as facts on the bytes: the tree is the only one.
 
-same_tree : OneTokenList → TreesAreDistinct → (bytes : List ℕ) (tokens : List Token) (trees : List TreeComponent)
-    → AreTokens bytes tokens
-    → ((others : List Component) → IsText (terminals_of bytes tokens) others → others ≡ component_trees trees)
-    → (others : List TreeComponent) → IsTreeOf bytes others → others ≡ trees
-same_tree one distinct bytes tokens trees cut only others tree =
-    distinct others trees (only (component_trees others)
-    (subst (λ (ts : List Token). IsText (terminals_of bytes ts) (component_trees others)) (one bytes tree.tokens tokens tree.cut cut) tree.text))
+same_tree : OneTokenList → (bytes : List ℕ) (tokens : List Token) (all : List Component) → AreTokens bytes tokens
+    → ((others : List Component) → IsText (terminals_of bytes tokens) others → others ≡ all)
+    → (others : List Component) → IsTreeOf bytes others → others ≡ all
+same_tree one bytes tokens all cut only others tree =
+    only others (subst (λ (ts : List Token). IsText (terminals_of bytes ts) others) (one bytes tree.tokens tokens tree.cut cut) tree.text)
 
-pub sole_tree : OneTokenList → TreesAreDistinct
-    → (bytes : List ℕ) (tokens : List Token) (r : Result (List TreeComponent) Stop)
+pub sole_tree : OneTokenList → (bytes : List ℕ) (tokens : List Token) (r : Result (List TreeComponent) Stop)
     → length bytes ≤ most_bytes → AreTokens bytes tokens
     → IfOk r (λ trees. IsText (terminals_of bytes tokens) (component_trees trees))
     → IfOk r (λ trees. (others : List Component) → IsText (terminals_of bytes tokens) others → others ≡ component_trees trees)
-    → IfOk r (IsSoleTreeOf bytes)
-sole_tree one distinct bytes tokens (Ok trees) short cut text only = record {
+    → IfOk r (λ trees. IsSoleTreeOf bytes (component_trees trees))
+sole_tree one bytes tokens (Ok trees) short cut text only = record {
   tree = record { short = short; tokens = tokens; cut = cut; text = text };
-  sole = same_tree one distinct bytes tokens trees cut only;
+  sole = same_tree one bytes tokens (component_trees trees) cut only;
 }
-sole_tree one distinct bytes tokens (Err stop) short cut text only = tt
+sole_tree one bytes tokens (Err stop) short cut text only = tt
 
 pub syntax_fault : (bytes : List ℕ) (tokens : List Token) (r : Result (List TreeComponent) Stop)
     → length bytes ≤ most_bytes → AreTokens bytes tokens
@@ -102,23 +118,24 @@ syntax_fault bytes tokens (Err (stops.Fault fault)) short cut none kind =
     inr (inr (inl (record { short = short; tokens = tokens; cut = cut; no_text = none; kind = kind })))
 syntax_fault bytes tokens (Err stops.NoMemory) short cut none kind = tt
 
--- Where the only tree is not of the first form, none is.
-pub is_not_built : (bytes : List ℕ) (trees : List TreeComponent) (fault : Fault) → IsSoleTreeOf bytes trees
-    → (FirstForm trees → ⊥)
-    → fault ≡ at_start F0 → IsFaultOf bytes fault
-is_not_built bytes trees fault sole other told = inr (inr (inr (record {
-  components = trees;
-  tree = sole.tree;
-  other = λ others tree form. other (subst FirstForm (sole.sole others tree) form);
-  is = told;
-})))
+-- What is answered on a tree.
 
--- What is answered on a tree that is not of the first form.
-pub refused_stop : (T : Type 0) (bytes : List ℕ) (trees : List TreeComponent) (stop : Stop) → IsSoleTreeOf bytes trees
-    → Refuses trees stop
-    → IfFault {T = T} (Err stop) (IsFaultOf bytes)
-refused_stop T bytes trees (stops.Fault fault) sole refuses = is_not_built bytes trees fault sole refuses.0 refuses.1
-refused_stop T bytes trees stops.NoMemory sole refuses = tt
+pub spec_of : (bytes : List ℕ) (all : List Component) (r : Result Spec Stop)
+    → IfOk r (λ s. (tree_site (length bytes) all ≡ None) × Stands bytes all s) → IfOk r (IsSpecOf bytes all)
+spec_of bytes all (Ok s) is = record { faultless = is.0; stands = is.1 }
+spec_of bytes all (Err stop) is = tt
+
+pub first_fault : (bytes : List ℕ) (all : List Component) (r : Result Spec Stop) → IsSoleTreeOf bytes all
+    → IfErr r (Refuses bytes all) → IfFault r (IsFaultOf bytes)
+first_fault bytes all (Ok s) sole refuses = tt
+first_fault bytes all (Err (stops.Fault fault)) sole refuses =
+    inr (inr (inr (inl (record { components = all; tree = sole; first = refuses }))))
+first_fault bytes all (Err stops.NoMemory) sole refuses = tt
+
+pub not_built : (bytes : List ℕ) (all : List Component) (s : Spec) (fault : Fault) → IsSoleTreeOf bytes all → IsSpecOf bytes all s
+    → is_built s all ≡ false → fault ≡ at_start F0 → IsFaultOf bytes fault
+not_built bytes all s fault sole of unbuilt told =
+    inr (inr (inr (inr (record { components = all; spec = s; tree = sole; of = of; unbuilt = unbuilt; is = told }))))
 
 -- What is answered on bytes that are too many.
 pub size_fault : (told : Option (List ℕ)) (fault : Fault) → fault ≡ at_start F1
@@ -134,28 +151,53 @@ done_of true undecided none = inr refl
 done_of false true none = absurd (true≢false none)
 done_of false false none = inl refl
 
--- What is answered on a specification of the first form.
-pub is_checked : FirstFormIsPropositional → LevelsAreDecided → SuccessIsSafe
-    → (bytes : List ℕ) (trees : List TreeComponent) (spec : Spec) (report : Report) → IsSoleTreeOf bytes trees
-    → FirstForm trees → Stands bytes trees spec
-    → (IsPropositionalSpec spec → IsReportOf spec report)
+-- What is answered on a specification that is decided.
+
+pub record Deciding : Type 0 where
+  pub propositional : BuiltIsPropositional
+  pub unique : StandsIsUnique
+  pub decided : LevelsAreDecided
+  pub safe : SuccessIsSafe
+  pub answers : AnswersAreUnique
+
+only_report : Deciding → (bytes : List ℕ) (all : List Component) (s : Spec) (answers : List Answer) → IsSoleTreeOf bytes all → IsSpecOf bytes all s
+    → AreAnswers s answers → (other : List ℕ) → IsReportOf bytes other → other ≡ check_text s answers
+only_report by bytes all s answers sole of are other report =
+    let trees : report.system.components ≡ all = sole.sole report.system.components report.system.tree in
+    let specs : report.spec ≡ s = by.unique bytes all report.spec s
+    (subst (λ (cs : List Component). Stands bytes cs report.spec) trees report.system.of.stands) of.stands in
+    let same : report.answers ≡ answers = by.answers s report.answers answers
+    (subst (λ (x : Spec). AreAnswers x report.answers) specs report.decided) are in
+    report.is ∙ ap (λ (x : Spec). check_text x report.answers) specs ∙ ap (check_text s) same
+
+is_checked : Deciding → (bytes : List ℕ) (all : List Component) (s : Spec) (report : Report) → IsSoleTreeOf bytes all → IsSpecOf bytes all s
+    → is_built s all ≡ true → (HasPropositionalLevels s → Reports s report)
     → IsDone report.status × IsChecked bytes report.text report.status
-is_checked propositional decided safe bytes trees spec report sole form stands made =
-    let over : IsPropositionalSpec spec = propositional bytes trees spec form stands in
-    let of : IsReportOf spec report = made over in
-    let done : IsDone (status of.0) = done_of (list_any is_refuted of.0) (list_any is_undecided of.0) (all_decided spec 0 spec.items of.0 of.1) in (
-      subst IsDone (sym of.3) done,
+is_checked by bytes all s report sole of built made =
+    let over : HasPropositionalLevels s = by.propositional bytes all s sole.tree of built in
+    let told : Reports s report = made over in
+    let done : IsDone (status told.0) = done_of (list_any is_refuted told.0) (list_any is_undecided told.0) (all_decided s 0 s.items told.0 told.1) in (
+      subst IsDone (sym told.3) done,
       record {
-        spec = spec;
-        system = record { components = trees; tree = sole.tree; form = form; stands = stands };
-        answers = of.0;
-        decided = of.1;
-        report = of.2;
-        status = of.3;
-        meant = λ item. decided spec item over;
-        safe = λ ended. safe spec over of.0 of.1 (sym of.3 ∙ ended);
+        report = record {
+          spec = s;
+          system = record { components = all; tree = sole.tree; of = of; built = built };
+          answers = told.0;
+          decided = told.1;
+          is = told.2;
+        };
+        only = λ other is. only_report by bytes all s told.0 sole of told.1 other is ∙ sym told.2;
+        status = told.3;
+        meant = λ n item at. by.decided s item over.well (over.levels n item at);
+        safe = λ ended. by.safe s over told.0 told.1 (sym told.3 ∙ ended);
       },
     )
+
+pub checked_if : Deciding → (bytes : List ℕ) (all : List Component) (s : Spec) (r : Result Report NoMemory) → IsSoleTreeOf bytes all
+    → IsSpecOf bytes all s → is_built s all ≡ true → IfOk r (λ report. HasPropositionalLevels s → Reports s report)
+    → IfOk r (λ report. IsDone report.status × IsChecked bytes report.text report.status)
+checked_if by bytes all s (Ok report) sole of built made = is_checked by bytes all s report sole of built made
+checked_if by bytes all s (Err none) sole of built made = tt
 
 -- A fact of the bytes, where they are told.
 map_some : {P Q : List ℕ → Type 0} (o : Option (List ℕ)) → ((b : List ℕ) → P b → Q b) → IfSome o P → IfSome o Q
@@ -183,7 +225,7 @@ no_accepted law task t is held fault has R =
     subst (λ o. OfFile o held (λ bytes. Accepted bytes → R)) (sym is) (map_some (held (file_of t)) (λ b f a. absurd (law b a (fault, f))) has)
 
 is_accepted : (bytes text : List ℕ) (ended : ℕ) → IsChecked bytes text ended → Accepted bytes
-is_accepted bytes text ended checked = (checked.system.components, checked.system.tree, checked.system.form)
+is_accepted bytes text ended checked = (checked.report.spec, checked.report.system)
 
 pub no_refused : AcceptedHasNoFault → (task : Option Task) (t : Task) → task ≡ Some t
     → (held : List ℕ → Option (List ℕ)) (text : List ℕ) (ended : ℕ)
@@ -199,7 +241,7 @@ pub is_safe : (task : Option Task) (t : Task) → task ≡ Some t
     → OfFile task held (λ bytes. (spec : Spec) × IsSystemOf bytes spec × IsSafe spec)
 is_safe task t is held text ended zero has =
     subst (λ o. OfFile o held (λ bytes. (spec : Spec) × IsSystemOf bytes spec × IsSafe spec)) (sym is)
-    (map_some (held (file_of t)) (λ b checked. (checked.spec, checked.system, checked.safe zero)) has)
+    (map_some (held (file_of t)) (λ b checked. (checked.report.spec, checked.report.system, checked.safe zero)) has)
 
 pub front_of_report : (task : Option Task) (t : Task) → task ≡ Some t
     → (held : List ℕ → Option (List ℕ)) (text : List ℕ) (ended : ℕ) (P : List ℕ → Type 0)

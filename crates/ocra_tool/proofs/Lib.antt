@@ -1,3 +1,5 @@
+pub mod Built
+pub mod BuiltTables
 pub mod Decided
 pub mod Excluded
 pub mod Saying

@@ -1,45 +1,51 @@
--- What the bytes of a file are: a specification of the first form, or a text that is refused for a fault.
+-- What the bytes of a file are: a specification that `check` decides, or a text that is refused for a fault (the phases
+-- of a translator: Aho, Lam, Sethi and Ullman, Compilers: Principles, Techniques, and Tools, 2006).
 --
--- The faults come in phases: the size of the file, its tokens, its syntax, and what isn't built yet. A phase has a
--- fault only where no earlier one has.
-use Rattle.std.specs.Prelude.{◌≡◌, ℕ, ◌<◌, ◌≤◌, ◌⊎◌, List, length}
+-- The faults come in phases: the size of the file, its tokens, its syntax, then its names, types and limits, and last
+-- what isn't built yet. A phase has a fault only where no earlier one has, and the first of its faults is told.
+use Rattle.std.specs.Prelude.{◌≡◌, ℕ, ◌<◌, ◌≤◌, ◌⊎◌, true, false, List, length, Some, None}
 use Rattle.oss_base.specs.Limits.{most_bytes}
 use Rattle.oss_base.specs.declared.fault.Fault.{Fault}
 use Rattle.oss_base.specs.declared.fault.FaultKind.{FaultKind}
 use Rattle.oss_base.specs.declared.fault.FaultKind.TheVariants.{F0, F1}
 use Rattle.oss_syntax.specs.declared.token.Token.{Token}
-use Rattle.oss_syntax.specs.declared.component.TreeComponent.{TreeComponent}
 use Rattle.oss_syntax.specs.Tokens.{AreTokens, IsFirstFault}
 use Rattle.oss_syntax.specs.Terminals.{terminals_of}
 use Rattle.oss_syntax.specs.Texts.{IsText}
-use Rattle.oss_syntax.specs.Trees.{Component, component_trees}
+use Rattle.oss_syntax.specs.Trees.{Component}
 use Rattle.oss_syntax.specs.SyntaxFaults.{IsSyntaxKind}
 use Rattle.spec_model.specs.declared.spec.Spec.{Spec}
-use Rattle.architecture.specs.FirstForm.{FirstForm}
-use Rattle.architecture.specs.Stands.{Stands}
+use Rattle.architecture.specs.FirstFaults.{tree_site, tree_fault}
+use Rattle.architecture.specs.Standing.{Stands}
+use Rattle.ocra_tool.specs.NotBuilt.{is_built}
 
 -- The bytes are a text of the grammar, and this is its tree.
-pub record IsTreeOf (bytes : List ℕ) (components : List TreeComponent) : Type 0 where
+pub record IsTreeOf (bytes : List ℕ) (components : List Component) : Type 0 where
   pub short : length bytes ≤ most_bytes
   pub tokens : List Token
   pub cut : AreTokens bytes tokens
-  pub text : IsText (terminals_of bytes tokens) (component_trees components)
+  pub text : IsText (terminals_of bytes tokens) components
 
 -- This is the only tree of the text.
-pub record IsSoleTreeOf (bytes : List ℕ) (components : List TreeComponent) : Type 0 where
+pub record IsSoleTreeOf (bytes : List ℕ) (components : List Component) : Type 0 where
   pub tree : IsTreeOf bytes components
-  pub sole : (others : List TreeComponent) → IsTreeOf bytes others → others ≡ components
+  pub sole : (others : List Component) → IsTreeOf bytes others → others ≡ components
 
--- the bytes are a specification of the first form
-abbrev pub Accepted : List ℕ → Type 0
-Accepted bytes = (components : List TreeComponent) × IsTreeOf bytes components × FirstForm components
-
--- The bytes are a text of the first form, and this is the specification that it stands for.
-pub record IsSystemOf (bytes : List ℕ) (spec : Spec) : Type 0 where
-  pub components : List TreeComponent
-  pub tree : IsTreeOf bytes components
-  pub form : FirstForm components
+-- The bytes are a text without a fault, which stands for this specification.
+pub record IsSpecOf (bytes : List ℕ) (components : List Component) (spec : Spec) : Type 0 where
+  pub faultless : tree_site (length bytes) components ≡ None
   pub stands : Stands bytes components spec
+
+-- The same, and it is decided.
+pub record IsSystemOf (bytes : List ℕ) (spec : Spec) : Type 0 where
+  pub components : List Component
+  pub tree : IsTreeOf bytes components
+  pub of : IsSpecOf bytes components spec
+  pub built : is_built spec components ≡ true
+
+-- the bytes are a specification that is decided
+abbrev pub Accepted : List ℕ → Type 0
+Accepted bytes = (spec : Spec) × IsSystemOf bytes spec
 
 -- a fault at the start of the text
 abbrev pub at_start : FaultKind → Fault
@@ -63,17 +69,25 @@ pub record IsSyntaxFault (bytes : List ℕ) (fault : Fault) : Type 0 where
   pub no_text : (components : List Component) → ¬ IsText (terminals_of bytes tokens) components
   pub kind : IsSyntaxKind fault.kind
 
--- The text is a specification, and none of the first form: it asks for what isn't built yet.
+-- The text has a fault of names, types or limits, and this is the first.
+pub record IsTreeFault (bytes : List ℕ) (fault : Fault) : Type 0 where
+  pub components : List Component
+  pub tree : IsSoleTreeOf bytes components
+  pub first : tree_fault bytes components ≡ Some fault
+
+-- The text is a specification without a fault that isn't decided: it asks for what isn't built yet.
 pub record IsNotBuilt (bytes : List ℕ) (fault : Fault) : Type 0 where
-  pub components : List TreeComponent
-  pub tree : IsTreeOf bytes components
-  pub other : (trees : List TreeComponent) → IsTreeOf bytes trees → ¬ FirstForm trees
+  pub components : List Component
+  pub spec : Spec
+  pub tree : IsSoleTreeOf bytes components
+  pub of : IsSpecOf bytes components spec
+  pub unbuilt : is_built spec components ≡ false
   pub is : fault ≡ at_start F0
 
 -- what the bytes of a file are refused for
 abbrev pub IsFaultOf : List ℕ → Fault → Type 0
 IsFaultOf bytes fault = IsSizeFault bytes fault ⊎ IsLexingFault bytes fault ⊎ IsSyntaxFault bytes fault
-    ⊎ IsNotBuilt bytes fault
+    ⊎ IsTreeFault bytes fault ⊎ IsNotBuilt bytes fault
 
 -- the bytes are refused for some fault
 abbrev pub Refused : List ℕ → Type 0

@@ -1,9 +1,11 @@
 pub mod Answers
+pub mod BuiltTables
 pub mod Commands
 pub mod Decided
 pub mod Files
 pub mod Laws
 pub mod Lines
+pub mod NotBuilt
 pub mod Outcomes
 pub mod Words
 pub mod Statuses

@@ -41,8 +41,8 @@ Means told before now task (Refused line) =
 Means told before now task (ReadFault name) = (name.now ≡ file_of task) × Rose before now
 Means told before now task NoMemory = Unit {0}
 
--- The report on a specification: the verdicts of its obligations, their text and status.
-abbrev pub IsReportOf : Spec → Report → Type 0
-IsReportOf spec report =
+-- What is reported of a specification: the verdicts of its obligations, their text and status.
+abbrev pub Reports : Spec → Report → Type 0
+Reports spec report =
     (answers : List Answer) × AreAnswers spec answers × (report.text ≡ check_text spec answers)
     × (report.status ≡ status answers)

@@ -1,17 +1,21 @@
 //! `check FILE`: reads the file and makes its report, or the line of its fault. It reads the shelf and writes to no
 //! sink.
 
-ghost use Rattle.std.specs.Prelude.{◌≡◌, ◌≤◌, ◌↔◌, List, ℕ, Option, Some, length, IfOk, IfSome};
+ghost use Rattle.std.specs.Prelude.{◌≡◌, ◌≤◌, ◌↔◌, true, List, ℕ, Option, Some, length, IfOk, IfSome};
 ghost use Rattle.oss_base.specs.Faults.{IfFault};
 ghost use Rattle.oss_base.specs.Limits.{most_bytes};
 ghost use Rattle.ocra_tool.specs.Decided.{IsChecked};
-ghost use Rattle.ocra_tool.specs.Files.{at_start, IsFaultOf, IsSoleTreeOf};
+ghost use Rattle.ocra_tool.specs.Files.{at_start, IsFaultOf, IsSoleTreeOf, IsSpecOf};
 ghost use Rattle.ocra_tool.specs.Statuses.{IsDone};
-ghost use Rattle.spec_model.specs.Propositional.{IsPropositionalSpec};
-ghost use Rattle.ocra_tool.specs.Outcomes.{IsReportOf, Means};
+ghost use Rattle.spec_model.specs.Propositional.{HasPropositionalLevels};
+ghost use Rattle.oss_syntax.specs.Trees.{component_trees};
+ghost use Rattle.ocra_tool.specs.NotBuilt.{is_built as built};
+ghost use Rattle.ocra_tool.specs.Outcomes.{Reports, Means};
 ghost use Rattle.ocra_tool.specs.Words.{CheckFile};
 
+use crate::laws::built_is_propositional;
 use crate::lines::fault_line;
+use crate::not_built::is_built;
 use crate::outcome::{Outcome, Report};
 use architecture::resolve;
 use oss_base::{Fault, FaultKind, MOST_BYTES, Place, Stop};
@@ -61,19 +65,41 @@ fn report_on(alloc: Global, bytes: &[u8]) -> Result<Report, Stop>
     ensures report { IfOk result (λ report. IsDone report.status × IsChecked bytes.now report.text report.status) }
     ensures fault { IfFault result (IsFaultOf bytes.now) }
 {
-    architecture::first_form_is_propositional();
-    obligations::levels_are_decided();
-    report::success_is_safe();
     let tree = tree_of(alloc, bytes)?;
-    match resolve(alloc, bytes, &tree) {
-        Ok(spec) => Ok(report_of(alloc, &spec)?),
-        Err(stop) => Err(stop),
+    let spec = spec_of(alloc, bytes, &tree)?;
+    if !is_built(alloc, &spec, &tree)? {
+        return Err(Stop::Fault(fault_at_start(FaultKind::F0)));
     }
+    Ok(report_of(alloc, bytes, &tree, &spec)?)
 }
 
-/// The report on a specification.
-fn report_of(alloc: Global, spec: &Spec) -> Result<Report, NoMemory>
-    ensures { IfOk result (λ report. IsPropositionalSpec spec.now → IsReportOf spec.now report) }
+/// The specification that a tree stands for, or the first fault of its names, types or limits.
+fn spec_of(alloc: Global, bytes: &[u8], tree: &SpecTree) -> Result<Spec, Stop>
+    requires sole { IsSoleTreeOf bytes.now (component_trees tree.now) }
+    ensures spec { IfOk result (IsSpecOf bytes.now (component_trees tree.now)) }
+    ensures fault { IfFault result (IsFaultOf bytes.now) }
+{
+    resolve(alloc, bytes, tree)
+}
+
+/// The report on the specification that a tree stands for, where it is decided.
+fn report_of(alloc: Global, bytes: &[u8], tree: &SpecTree, spec: &Spec) -> Result<Report, NoMemory>
+    requires sole { IsSoleTreeOf bytes.now (component_trees tree.now) }
+    requires of { IsSpecOf bytes.now (component_trees tree.now) spec.now }
+    requires built { built spec.now (component_trees tree.now) ≡ true }
+    ensures report { IfOk result (λ report. IsDone report.status × IsChecked bytes.now report.text report.status) }
+{
+    built_is_propositional();
+    architecture::stands_is_unique();
+    obligations::levels_are_decided();
+    report::success_is_safe();
+    report::answers_are_unique();
+    reported(alloc, spec)
+}
+
+/// What is reported of a specification.
+fn reported(alloc: Global, spec: &Spec) -> Result<Report, NoMemory>
+    ensures { IfOk result (λ report. HasPropositionalLevels spec.now → Reports spec.now report) }
 {
     let answers = answer_by_valuations(alloc, spec)?;
     let text = render_check(alloc, spec, &answers)?;
@@ -86,11 +112,10 @@ fn report_of(alloc: Global, spec: &Spec) -> Result<Report, NoMemory>
 /// The tree of the text that the bytes are, or the first fault of its size, its tokens or its syntax.
 fn tree_of(alloc: Global, bytes: &[u8]) -> Result<SpecTree, Stop>
     requires { length bytes.now ≤ most_bytes }
-    ensures tree { IfOk result (IsSoleTreeOf bytes.now) }
+    ensures tree { IfOk result (λ tree. IsSoleTreeOf bytes.now (component_trees tree)) }
     ensures fault { IfFault result (IsFaultOf bytes.now) }
 {
     oss_lexer::one_token_list();
-    oss_syntax::trees_are_distinct();
     let tokens = lex(alloc, bytes)?;
     read_tree(alloc, bytes, &tokens)
 }

@@ -8,6 +8,7 @@ mod arguments;
 mod check;
 mod laws;
 mod lines;
+mod not_built;
 mod outcome;
 #[cfg(test)]
 mod tests;

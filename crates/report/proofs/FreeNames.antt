@@ -106,12 +106,18 @@ rows_give_names spec c rows e =
     ∙ sym (pieces (is_free spec c) (port_text spec c) (targets_at spec c None)
     (flat_map (λ k. targets_at spec c (sub_at k)) (range_with_len 0 (length (subs_of spec c))))))
 
+-- what is read of a component to name its free ports: its ports and subcomponents, and what drives its own ports and
+-- those of the subcomponents
+pub record AreRead (spec : Spec) (c : ComponentId) (ports : List OwnPort) (row : List Driver) (subs : List Sub) (others : List (List Driver)) : Type 0 where
+  pub ports_are : ports ≡ ports_of spec c
+  pub row_is : row ≡ get_or (driver_rows spec c) 0 []
+  pub subs_are : subs ≡ subs_of spec c
+  pub others_are : others ≡ drop 1 (driver_rows spec c)
+
 -- the same of lists that were made one after the other
-pub rows_pushed : (spec : Spec) (c : ComponentId) (rows : List (List Driver)) (none own all : List (List ℕ)) (ports : List OwnPort)
-    (row : List Driver) (subs : List Sub)
-    (others : List (List Driver)) → rows ≡ driver_rows spec c → none ≡ [] → own ≡ none ++ row_names [] ports row → all ≡ own ++ flat_map
-    (sub_row_names spec) (zip subs others)
-    → ports ≡ ports_of spec c → row ≡ get_or rows 0 [] → subs ≡ subs_of spec c → others ≡ drop 1 rows
+pub rows_pushed : (spec : Spec) (c : ComponentId) (ports : List OwnPort) (row : List Driver) (subs : List Sub) (others : List (List Driver))
+    (none own all : List (List ℕ)) → AreRead spec c ports row subs others → none ≡ [] → own ≡ none ++ row_names [] ports row
+    → all ≡ own ++ flat_map (sub_row_names spec) (zip subs others)
     → all ≡ free_names spec c
-rows_pushed spec c rows none own all ports row subs others r e f g p q s o =
-    rw g (rw f (rw e (rw p (rw q (rw s (rw o (rows_give_names spec c rows r)))))))
+rows_pushed spec c ports row subs others none own all read e f g =
+    rw g (rw f (rw e (rw read.ports_are (rw read.row_is (rw read.subs_are (rw read.others_are (rows_give_names spec c (driver_rows spec c) refl)))))))

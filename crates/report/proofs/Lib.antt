@@ -1,3 +1,4 @@
-pub mod Zips
-pub mod FreeNames
 pub mod AllAnswers
+pub mod FreeNames
+pub mod Unique
+pub mod Zips

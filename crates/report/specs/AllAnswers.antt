@@ -1,5 +1,5 @@
 -- The answers to all obligations of a specification, and what they say of the whole system.
-use Rattle.spec_model.specs.Propositional.{IsPropositionalSpec}
+use Rattle.spec_model.specs.Propositional.{HasPropositionalLevels}
 use Rattle.std.specs.Prelude.{◌≡◌, ℕ, zero, suc, ◌+◌, List, [], ◌∷◌, ◌++◌}
 use Rattle.oss_base.specs.declared.ids.ItemId.{ItemId}
 use Rattle.spec_model.specs.declared.spec.Spec.{Spec}
@@ -41,7 +41,12 @@ AreAnswersFrom spec n (item ∷ items) answers = (vs : List Verdict) × (rest : 
 abbrev pub AreAnswers : Spec → List Answer → Type 0
 AreAnswers spec answers = AreAnswersFrom spec 0 spec.items answers
 
--- Where all obligations of a specification over truth values are answered and the status is 0, the system is safe.
+-- Where all obligations of a specification whose levels are over truth values are answered and the status is 0, the
+-- system is safe.
 abbrev pub SuccessIsSafe : Type 0
-SuccessIsSafe = (spec : Spec) → IsPropositionalSpec spec → (answers : List Answer) → AreAnswers spec answers
+SuccessIsSafe = (spec : Spec) → HasPropositionalLevels spec → (answers : List Answer) → AreAnswers spec answers
     → status answers ≡ 0 → IsSafe spec
+
+-- A specification has one list of answers.
+abbrev pub AnswersAreUnique : Type 0
+AnswersAreUnique = (spec : Spec) (a b : List Answer) → AreAnswers spec a → AreAnswers spec b → a ≡ b

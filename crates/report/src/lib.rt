@@ -5,10 +5,12 @@ mod answers;
 mod check_text;
 mod free_ports;
 mod lasso_block;
+mod laws;
 #[cfg(test)]
 mod tests;
 mod valuing;
 
 pub use answers::{Answer, Answers, status_of};
 pub use check_text::render_check;
-pub use valuing::{answer_by_valuations, success_is_safe};
+pub use laws::{answers_are_unique, success_is_safe};
+pub use valuing::answer_by_valuations;

@@ -1,9 +1,8 @@
-//! The answers to all obligations of a specification over truth values.
+//! The answers to all obligations of a specification whose levels are over truth values.
 
-ghost use Rattle.spec_model.specs.Propositional.{IsPropositionalSpec};
+ghost use Rattle.spec_model.specs.Propositional.{HasPropositionalLevels};
 ghost use Rattle.std.specs.Prelude.{◌≡◌, ◌∷◌, ◌++◌, [], IfOk, OnOk};
 ghost use Rattle.report.specs.AllAnswers.{answer, answers_from, obligation_of as obligation_at, AreAnswers};
-ghost use Rattle.report.specs.AllAnswers.{SuccessIsSafe};
 
 use crate::answers::{Answer, Answers};
 use obligations::{ObligationName, verdicts};
@@ -13,10 +12,10 @@ use spec_model::Spec;
 use std::alloc::Global;
 use typed_ltl::Verdict;
 
-/// Answers all obligations, each question by the valuations of the free ports of its component. Where the
-/// specification does not speak of truth values alone, nothing is said of the answers.
+/// Answers all obligations, each question by the valuations of the free ports of its component. Where a level
+/// does not speak of truth values alone, nothing is said of the answers.
 pub fn answer_by_valuations(alloc: Global, spec: &Spec) -> Result<Answers, NoMemory>
-    ensures { IfOk result (λ answers. IsPropositionalSpec spec.now → AreAnswers spec.now answers) }
+    ensures { IfOk result (λ answers. HasPropositionalLevels spec.now → AreAnswers spec.now answers) }
 {
     let mut answers = Answers::new(alloc);
     for (place, item) in spec.items.as_slice().iter().enumerate() {
@@ -25,13 +24,6 @@ pub fn answer_by_valuations(alloc: Global, spec: &Spec) -> Result<Answers, NoMem
         push_level(&mut answers, id, verdicts.as_slice())?;
     }
     Ok(answers)
-}
-
-/// Where all obligations are answered and the status is 0, the system is safe.
-pub fn success_is_safe()
-    ensures { SuccessIsSafe }
-{
-    obligations::proved_systems_are_safe();
 }
 
 fn number(place: usize) -> Result<u32, NoMemory>

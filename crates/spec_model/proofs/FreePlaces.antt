@@ -212,7 +212,7 @@ lacks_before n p [] r l = refl
 lacks_before n p (d ∷ ds) r l =
     ap (λ b. b || list_any (nat_eq p) ds) (ne_eqb p d (λ e. absurd (omega (arith, e, r.0)))) ∙ lacks_before (d + 1) p ds r.1 (omega (arith, r.0))
 
-no_count : (n p : ℕ) (ds : List ℕ) → Rises n ds → p ≤ n → count_before ds p ≡ 0
+pub no_count : (n p : ℕ) (ds : List ℕ) → Rises n ds → p ≤ n → count_before ds p ≡ 0
 no_count n p [] r l = refl
 no_count n p (d ∷ ds) r l = ap (λ b. cond b (1 + count_before ds p) 0) (le-ltb d p (omega (arith, r.0)))
 
@@ -249,7 +249,7 @@ abbrev pub count_next : List ℕ → ℕ → Bool → Type 0
 count_next ds k true = count_before ds (k + 1) ≡ count_before ds k + 1
 count_next ds k false = count_before ds (k + 1) ≡ count_before ds k
 
-counts_next : (n k : ℕ) (ds : List ℕ) → Rises n ds → (b : Bool) → list_any (nat_eq k) ds ≡ b → count_next ds k b
+pub counts_next : (n k : ℕ) (ds : List ℕ) → Rises n ds → (b : Bool) → list_any (nat_eq k) ds ≡ b → count_next ds k b
 counts_next n k [] r true e = absurd (false≢true e)
 counts_next n k [] r false e = refl
 counts_next n k (d ∷ ds) r b e = by (ltb d k) refl (nat_eq k d) refl (counts_next (d + 1) k ds r.1 b) where

@@ -10,7 +10,8 @@ use Rattle.std.specs.List.{range_with_len, filter, list_any}
 use Rattle.oss_base.specs.declared.ids.SubId.{SubId}
 use Rattle.spec_model.specs.declared.wire.Target.{Target}
 use Rattle.spec_model.specs.Architecture.{target, same_sub, same_target}
-use Rattle.spec_model.specs.FreeRows.{row, rows, key, same_key, has_key, lacks_key, is_unconnected, ports_among, free_among}
+use Rattle.spec_model.specs.FreeRows.{row, rows, is_unconnected, ports_among, free_among}
+use Rattle.spec_model.specs.TargetKeys.{key, same_key, has_key, lacks_key}
 use Rattle.spec_model.proofs.Targets.{same_target_is}
 use Rattle.indexmap.specs.IndexSet.{insert_key}
 

@@ -10,7 +10,7 @@ use Rattle.spec_model.specs.declared.port.OwnPort.{OwnPort}
 use Rattle.spec_model.specs.declared.port.FreePort.{FreePort}
 use Rattle.spec_model.specs.declared.wire.Target.{Target}
 use Rattle.spec_model.specs.Architecture.{ports_at, port_at, subs_of, target, targets_at, all_ports, connection, free_targets, AreFreePorts}
-use Rattle.spec_model.specs.FreeRows.{free_port}
+use Rattle.spec_model.specs.TargetKeys.{shown_port}
 
 -- Every free port is there, so one is shown for each.
 
@@ -58,27 +58,27 @@ free_present spec c =
     (present_rows spec c (range_with_len 0 (length (subs_of spec c)))))
 
 shown_each : (spec : Spec) (c : ComponentId) (ts : List Target) → Present spec c ts
-    → AreFreePorts spec c ts (filter_map (free_port spec c) ts)
+    → AreFreePorts spec c ts (filter_map (shown_port spec c) ts)
 shown_each spec c [] p = tt
 shown_each spec c (t ∷ ts) p = by (port_at spec c t) refl p.0.1 (shown_each spec c ts p.1)
   where
-    by : (o : Option OwnPort) → port_at spec c t ≡ o → port_at spec c t ≡ Some p.0.0 → AreFreePorts spec c ts (filter_map (free_port spec c) ts)
+    by : (o : Option OwnPort) → port_at spec c t ≡ o → port_at spec c t ≡ Some p.0.0 → AreFreePorts spec c ts (filter_map (shown_port spec c) ts)
         → AreFreePorts spec c (t ∷ ts) (cons_option (option_map (λ (port : OwnPort). record {
           sub = t.sub;
           name = port.name;
           kind = port.kind;
-        }) o) (filter_map (free_port spec c) ts))
+        }) o) (filter_map (shown_port spec c) ts))
     by None e f rest = cc
     by (Some port) e f rest = (record { at = refl; port = (port, e, refl, refl) }, rest)
 
 free_shown : (spec : Spec) (c : ComponentId)
-    → AreFreePorts spec c (free_targets spec c) (filter_map (free_port spec c) (free_targets spec c))
+    → AreFreePorts spec c (free_targets spec c) (filter_map (shown_port spec c) (free_targets spec c))
 free_shown spec c = shown_each spec c (free_targets spec c) (free_present spec c)
 
 pub shown_free : {E : Type 0} (spec : Spec) (c : ComponentId) (targets : List Target) (r : Result (List FreePort) E)
     → targets ≡ free_targets spec c
-    → IfOk r (λ free. free ≡ filter_map (free_port spec c) targets)
+    → IfOk r (λ free. free ≡ filter_map (shown_port spec c) targets)
     → IfOk r (λ free. AreFreePorts spec c (free_targets spec c) free)
-shown_free spec c targets (Ok free) e h = subst (AreFreePorts spec c (free_targets spec c)) (sym (h ∙ ap (filter_map (free_port spec c)) e))
+shown_free spec c targets (Ok free) e h = subst (AreFreePorts spec c (free_targets spec c)) (sym (h ∙ ap (filter_map (shown_port spec c)) e))
     (free_shown spec c)
 shown_free spec c targets (Err x) e h = h

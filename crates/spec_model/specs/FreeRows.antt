@@ -1,20 +1,17 @@
 -- Which ports of a component are free, told by the numbers of ports of the component and of each of its
--- subcomponents and by the targets of its connections alone, before a specification is made; and how a
--- table keeps targets. That these are the free ports of a specification is the law `FreeRowsAreFree`.
+-- subcomponents and by the targets of its connections alone, before a specification is made. That these are the free
+-- ports of a specification is the law `FreeRowsAreFree` (free ports of a refinement: Cimatti and Tonetta, Contracts-
+-- refinement proof system for component-based embedded systems, 2015).
 
-use Rattle.std.specs.Prelude.{◌≡◌, ℕ, ◌+◌, Bool, not, nat_eq, ◌&&◌, List, [], ◌∷◌, ◌++◌, length, map, Option, Some}
-use Rattle.std.specs.Prelude.{None, option_map}
+use Rattle.std.specs.Prelude.{◌≡◌, ℕ, ◌+◌, Bool, not, List, [], ◌∷◌, ◌++◌, length, map, Option, Some, None}
 use Rattle.std.specs.List.{list_any, range_with_len, filter}
-use Rattle.std.specs.Option.{option_map_or}
 use Rattle.oss_base.specs.declared.ids.SubId.{SubId}
 use Rattle.oss_base.specs.declared.ids.ComponentId.{ComponentId}
 use Rattle.spec_model.specs.declared.spec.Spec.{Spec}
-use Rattle.spec_model.specs.declared.port.OwnPort.{OwnPort}
-use Rattle.spec_model.specs.declared.port.FreePort.{FreePort}
 use Rattle.spec_model.specs.declared.sub.Sub.{Sub}
 use Rattle.spec_model.specs.declared.wire.Wire.{Wire}
 use Rattle.spec_model.specs.declared.wire.Target.{Target}
-use Rattle.spec_model.specs.Architecture.{target, same_target, port_at, ports_of, subs_of, wires_of, free_targets}
+use Rattle.spec_model.specs.Architecture.{target, same_target, ports_of, subs_of, wires_of, free_targets}
 
 -- the ports of the component itself, or of one of its subcomponents
 abbrev pub row : Option SubId → ℕ → List Target
@@ -41,24 +38,3 @@ abbrev pub FreeRowsAreFree : Type 0
 FreeRowsAreFree = (spec : Spec) (c : ComponentId) → free_targets spec c
     ≡ free_among (length (ports_of spec c)) (map (λ (s : Sub). length (ports_of spec s.component)) (subs_of spec c))
     (map (λ (w : Wire). w.target) (wires_of spec c))
-
--- a target as a pair of numbers
-abbrev pub key : Target → ℕ × ℕ
-key t = (option_map_or (λ (sub : SubId). sub.0 + 1) t.sub 0, t.port.0)
-
-abbrev pub same_key : ℕ × ℕ → ℕ × ℕ → Bool
-same_key a b = nat_eq a.0 b.0 && nat_eq a.1 b.1
-
-abbrev pub has_key : List (ℕ × ℕ) → Target → Bool
-has_key keys t = list_any (same_key (key t)) keys
-
-abbrev pub lacks_key : List (ℕ × ℕ) → Target → Bool
-lacks_key keys t = not (has_key keys t)
-
--- a port as it is shown, if it is there
-abbrev pub free_port : Spec → ComponentId → Target → Option FreePort
-free_port spec c t = option_map (λ (port : OwnPort). record {
-  sub = t.sub;
-  name = port.name;
-  kind = port.kind;
-}) (port_at spec c t)

@@ -1,7 +1,7 @@
 //! The free order of a component as a table that finds the place of a port by binary search:
-//! `FreeOrder::place`. It touches nothing outside.
+//! `FreeOrder::place`, and counts the free ports: `FreeOrder::count`. It touches nothing outside.
 
-ghost use Rattle.std.specs.Prelude.{◌≡◌, ℕ, ◌+◌, ◌<◌, ◌^◌, ◌++◌, [], ◌∷◌, filter_map, nat_eq, position, slice_get};
+ghost use Rattle.std.specs.Prelude.{◌≡◌, ℕ, ◌+◌, ◌<◌, ◌^◌, ◌++◌, [], ◌∷◌, filter_map, length, nat_eq, position, slice_get};
 ghost use Rattle.std.specs.Prelude.{sum, IfOk, OnOk};
 ghost use Rattle.std.specs.List.{cons_option, list_any};
 ghost use Rattle.spec_model.specs.Architecture.{same_target};
@@ -186,6 +186,18 @@ fn find_place(
     }
 }
 
+/// How many ports there are.
+fn total(own: usize, counts: &[usize]) -> usize
+    requires { own + sum counts.now < 2 ^ 64 }
+    ensures { result ≡ own + sum counts.now }
+{
+    let mut total = own;
+    for count in counts {
+        total += *count;
+    }
+    total
+}
+
 impl FreeOrder {
     /// The free ports of a component with `own` ports and subcomponents with these numbers of ports, where
     /// connections drive these targets.
@@ -206,6 +218,14 @@ impl FreeOrder {
             starts,
             driven,
         })
+    }
+
+    /// How many free ports there are.
+    pub fn count(&self) -> usize
+        ensures { result ≡ length self.now }
+    {
+        let total = total(self.own, self.counts.as_slice());
+        total - count_before(self.driven.as_slice(), total)
     }
 
     /// The place of a port in the free order; none where it is no free port. In logarithmic time.

@@ -1,4 +1,5 @@
-//! The free ports of a component, as they are shown: `Spec::free_ports`. It touches nothing outside.
+//! The free ports of a component, as they are shown: `Spec::free_ports`, or as a table: `Spec::free_order`. It
+//! touches nothing outside.
 
 ghost use Rattle.std.specs.Prelude.{◌≡◌, ◌++◌, [], map, length, filter_map, IfOk, OnOk};
 ghost use Rattle.std.specs.List.{cons_option};
@@ -6,8 +7,9 @@ ghost use Rattle.std.specs.Option.{option_copied};
 ghost use Rattle.spec_model.specs.declared.sub.Sub.{Sub as Instance};
 ghost use Rattle.spec_model.specs.declared.wire.Wire.{Wire as Connection};
 ghost use Rattle.spec_model.specs.Architecture as specs;
-ghost use Rattle.spec_model.specs.FreeRows as rows;
+ghost use Rattle.spec_model.specs.TargetKeys.{shown_port};
 
+use crate::free_order::FreeOrder;
 use crate::lists::FreePorts;
 use crate::port::{FreePort, OwnPort};
 use crate::spec::Spec;
@@ -67,7 +69,7 @@ fn put_port(
     c: ComponentId,
     target: &Target,
 ) -> Result<(), NoMemory>
-    ensures { OnOk result (free.new ≡ free.old ++ cons_option (rows.free_port spec.now c target.now) []) }
+    ensures { OnOk result (free.new ≡ free.old ++ cons_option (shown_port spec.now c target.now) []) }
 {
     match port_at(spec, c, target) {
         Some(port) => {
@@ -89,7 +91,7 @@ fn shown(
     c: ComponentId,
     targets: &[Target],
 ) -> Result<FreePorts, NoMemory>
-    ensures { IfOk result (λ free. free ≡ filter_map (rows.free_port spec.now c) targets.now) }
+    ensures { IfOk result (λ free. free ≡ filter_map (shown_port spec.now c) targets.now) }
 {
     let mut free = FreePorts::new(alloc);
     for target in targets {
@@ -107,5 +109,16 @@ impl Spec {
         let alloc = self.components.allocator();
         let targets = free_targets(alloc, self, c)?;
         shown(alloc, self, c, targets.as_slice())
+    }
+
+    /// The free order of a component, as a table. In linear time in the numbers of its subcomponents and
+    /// connections, not in that of their ports.
+    pub fn free_order(&self, c: ComponentId) -> Result<FreeOrder, NoMemory>
+        ensures { IfOk result (λ order. order ≡ specs.free_targets self.now c) }
+    {
+        let alloc = self.components.allocator();
+        let counts = port_counts(alloc, self, self.subs_of(c))?;
+        let targets = targets_of(alloc, self.wires_of(c))?;
+        FreeOrder::new(alloc, self.ports_of(c).len(), counts, targets.as_slice())
     }
 }

@@ -6,6 +6,7 @@ ghost use Rattle.std.specs.List.{list_any};
 ghost use Rattle.spec_model.specs.declared.wire.Target.{Target as Port};
 ghost use Rattle.spec_model.specs.Architecture.{target, same_target};
 ghost use Rattle.spec_model.specs.FreeRows as rows;
+ghost use Rattle.spec_model.specs.TargetKeys as kept;
 
 use crate::wire::Target;
 use indexmap::IndexSet;
@@ -31,7 +32,7 @@ impl Model for TargetTable {
 /// A target as a pair of numbers: 0 for an own port, else one more than the subcomponent's place; and
 /// the place of the port.
 fn key(target: &Target) -> (u64, u64)
-    ensures { result ≡ rows.key target.now }
+    ensures { result ≡ kept.key target.now }
 {
     match target.sub {
         None => (0, target.port.0 as u64),
@@ -49,14 +50,14 @@ impl TargetTable {
     }
 
     fn has(&self, target: &Target) -> bool
-        ensures { result ≡ rows.has_key self.now target.now }
+        ensures { result ≡ kept.has_key self.now target.now }
     {
         self.keys.contains(&key(target))
     }
 
     fn add(&mut self, target: &Target) -> Result<(), NoMemory>
-        ensures { OnOk result ((t : Port) → rows.has_key self.new t
-            ≡ (same_target t target.now || rows.has_key self.old t)) }
+        ensures { OnOk result ((t : Port) → kept.has_key self.new t
+            ≡ (same_target t target.now || kept.has_key self.old t)) }
     {
         let _added = self.keys.insert(key(target))?;
         Ok(())
@@ -66,7 +67,7 @@ impl TargetTable {
 /// The table of these targets.
 #[tactic(auto, using(crate::proofs::FreeRows::table_more))]
 fn table_of(alloc: Global, targets: &[Target]) -> Result<TargetTable, NoMemory>
-    ensures { IfOk result (λ table. (t : Port) → rows.has_key table t ≡ list_any (same_target t) targets.now) }
+    ensures { IfOk result (λ table. (t : Port) → kept.has_key table t ≡ list_any (same_target t) targets.now) }
 {
     let mut table = TargetTable::new(alloc);
     for target in targets {
@@ -95,7 +96,7 @@ fn target_at(sub: Option<SubId>, place: usize) -> Result<Target, NoMemory>
 /// Puts a port, where it is free.
 fn put(free: &mut Vec<Target>, connected: &TargetTable, target: Target) -> Result<(), NoMemory>
     ensures { OnOk result (free.new.items ≡ free.old.items
-        ++ cond (rows.lacks_key connected.now target) (target ∷ []) []) }
+        ++ cond (kept.lacks_key connected.now target) (target ∷ []) []) }
 {
     if !connected.has(&target) {
         free.push(target)?;
@@ -111,7 +112,7 @@ fn put_row(
     count: usize,
 ) -> Result<(), NoMemory>
     ensures { OnOk result (free.new.items ≡ free.old.items
-        ++ filter (rows.lacks_key connected.now) (rows.row sub count)) }
+        ++ filter (kept.lacks_key connected.now) (rows.row sub count)) }
 {
     for place in 0..count {
         let target = target_at(sub, place)?;
@@ -128,7 +129,7 @@ fn put_rows(
     counts: &[usize],
 ) -> Result<(), NoMemory>
     ensures { OnOk result (free.new.items ≡ free.old.items
-        ++ filter (rows.lacks_key connected.now) (rows.rows 0 counts.now)) }
+        ++ filter (kept.lacks_key connected.now) (rows.rows 0 counts.now)) }
 {
     for (place, count) in counts.iter().enumerate() {
         let sub = SubId(number(place)?);

@@ -11,7 +11,7 @@ use Rattle.obligations.proofs.Decided.{open_verdict, entails_verdict, assumes_ve
 use Rattle.obligations.proofs.deciding.verdicts.Goals as goal
 
 pub loop-place-init : goal.loop-place-init
-loop-place-init c ok =
+loop-place-init c well level =
     let spec = c.args.spec.now in
     let item = c.args.item.now in
     let v = c.in_ok-entails.entails in
@@ -21,11 +21,11 @@ loop-place-init c ok =
     let found = ap (option_map (λ (row : TableLine). row.free)) (c.first_against_entails.ensures ∙ ap (find breaks_entails) c.as_slice-2.ensures.value) in
     verdicts_start spec item c.push.new.self.items v
     (c.in_ok-push.ensures.items ∙ ap (λ (vs : List Verdict). vs ++ v ∷ []) c.new-verdicts.ensures.items)
-    (entails_verdict spec ok item c.in_ok-drivers.drivers.free c.in_ok-table.table.items v c.in_ok-drivers.ensures.free table
+    (entails_verdict spec item (record { well = well; level = level }) c.in_ok-drivers.drivers.free c.in_ok-table.table.items v c.in_ok-drivers.ensures.free table
     (open_verdict _ _ v found c.in_ok-entails.ensures))
 
 pub loop-place-preserved : goal.loop-place-preserved
-loop-place-preserved c ok =
+loop-place-preserved c well level =
     let spec = c.args.spec.now in
     let item = c.args.item.now in
     let place = c.loop-place.place in
@@ -41,6 +41,6 @@ loop-place-preserved c ok =
     ∙ ap (λ (t : List TableLine). option_map (λ (row : TableLine). row.free)
     (find (breaks_assumes item.parts place s.0) t)) c.as_slice-in-loop-place.ensures.value in
     verdicts_more spec item c.loop-place.verdicts.items c.push-in-loop-place.new.self.items v place s.0
-    c.in_ok-push-2.ensures.items s.1 (c.loop-place.invariant ok)
-    (assumes_verdict spec ok item c.in_ok-drivers.drivers.free c.in_ok-table.table.items v c.in_ok-drivers.ensures.free table place s.0 s.1
+    c.in_ok-push-2.ensures.items s.1 (c.loop-place.invariant well level)
+    (assumes_verdict spec item (record { well = well; level = level }) c.in_ok-drivers.drivers.free c.in_ok-table.table.items v c.in_ok-drivers.ensures.free table place s.0 s.1
     (open_verdict _ _ v same told))

@@ -3,7 +3,7 @@ use Rattle.ocra_tool.proofs.check.tree_of.Goals as goal
 
 pub returns-clause-tree : goal.returns-clause-tree
 returns-clause-tree c =
-    sole_tree c.one_token_list.ensures c.trees_are_distinct.ensures c.args.bytes.now c.in_ok-tokens.tokens c.read_tree.result c.requires
+    sole_tree c.one_token_list.ensures c.args.bytes.now c.in_ok-tokens.tokens c.read_tree.result c.requires
     c.in_ok-tokens.ensures.tokens c.read_tree.ensures.text c.read_tree.ensures.only
 
 pub returns-clause-fault : goal.returns-clause-fault

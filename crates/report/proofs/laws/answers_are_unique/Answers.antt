@@ -1,0 +1,5 @@
+use Rattle.report.proofs.Unique.{answers_unique}
+use Rattle.report.proofs.laws.answers_are_unique.Goals as goal
+
+pub returns : goal.returns
+returns c = answers_unique

@@ -1,0 +1,9 @@
+pub mod Typing
+pub mod TypeFaults
+pub mod Uses
+pub mod TreeComponents
+pub mod Laws
+pub mod Walks
+pub mod Making
+pub mod Tables
+pub mod NameTables

@@ -1,0 +1,240 @@
+//! The connections of a refinement with typed expressions: `wires_of`. Type faults are noted. It touches
+//! nothing outside.
+
+ghost use Rattle.std.specs.Prelude.{◌≡◌, ◌++◌, [], IfOk, OnOk, Some, map, filter_map, option_map};
+ghost use Rattle.spec_model.specs.Meanings as meanings;
+ghost use Rattle.std.specs.List.{cons_option, flat_map};
+ghost use Rattle.oss_syntax.specs.Expressions.{tree};
+ghost use Rattle.spec_names.specs.Noting.{noted};
+ghost use Rattle.spec_types.specs.Typing.{typed_of};
+ghost use Rattle.spec_types.specs.TypeFaults.{source_faults};
+ghost use Rattle.spec_types.specs.TypeFaults as faults;
+ghost use Rattle.spec_types.specs.Uses.{expression_uses};
+ghost use Rattle.spec_types.specs.TreeComponents as specs;
+ghost use Rattle.spec_types.specs.Walks as walks;
+ghost use Rattle.spec_types.specs.Making as making;
+
+use crate::contracts::{start, used_expression};
+use crate::fits::admits_source;
+use crate::scope::{FoundPort, RefinementScope, Scope, find_port, find_sub_port, same_direction};
+use crate::typed::Typed;
+use crate::walk::note_unless;
+use oss_base::{FirstSite, SubId};
+use oss_syntax::{Expr, RefinementItem, TargetTree};
+use port_types::{NoMemory, PortId, PortType};
+use spec_model::{FreeOrder, Source, Target, Uses, Wire, Wires};
+use std::alloc::Global;
+
+/// The target that a port of this direction is; the first own port where it is none.
+fn directed_target(input: bool, sub: Option<SubId>, found: Option<FoundPort>) -> Target
+    ensures { result ≡ walks.directed_target input sub (option_map walks.found found.entry) }
+{
+    match found {
+        Some(found) => {
+            if same_direction(found.port.input, input) {
+                Target {
+                    sub,
+                    port: PortId(found.place),
+                }
+            } else {
+                Target {
+                    sub: None,
+                    port: PortId(0),
+                }
+            }
+        }
+        None => Target {
+            sub: None,
+            port: PortId(0),
+        },
+    }
+}
+
+/// The target of a connection.
+pub(crate) fn target_of(scope: &RefinementScope, target: &TargetTree) -> Target
+    ensures { result ≡ walks.target_by (walks.refinement scope.now) target.now }
+{
+    match target {
+        TargetTree::Own(port) => {
+            directed_target(false, None, find_port(scope.own, port.text.as_str()))
+        }
+        TargetTree::OfSub(sub, port) => match find_sub_port(scope, sub, port) {
+            Some((place, found)) => directed_target(true, Some(SubId(place)), Some(found)),
+            None => Target {
+                sub: None,
+                port: PortId(0),
+            },
+        },
+    }
+}
+
+/// Whether the expression may be the value of a port of this direction; one that is none counts as boolean.
+fn admits(
+    alloc: Global,
+    input: bool,
+    found: Option<FoundPort>,
+    source: &Typed,
+) -> Result<bool, NoMemory>
+    ensures { IfOk result (λ fit. fit ≡ faults.admits_source
+        (walks.directed_kind input (option_map walks.found found.entry)) (walks.typed source.now)) }
+{
+    match found {
+        Some(found) => {
+            if same_direction(found.port.input, input) {
+                admits_source(alloc, &found.port.kind, source)
+            } else {
+                admits_source(alloc, &PortType::Bool, source)
+            }
+        }
+        None => admits_source(alloc, &PortType::Bool, source),
+    }
+}
+
+fn target_admits(
+    alloc: Global,
+    scope: &RefinementScope,
+    target: &TargetTree,
+    source: &Typed,
+) -> Result<bool, NoMemory>
+    ensures { IfOk result (λ fit. fit ≡ faults.admits_source
+        (walks.kind_by (walks.refinement scope.now) target.now) (walks.typed source.now)) }
+{
+    match target {
+        TargetTree::Own(port) => {
+            let found = find_port(scope.own, port.text.as_str());
+            admits(alloc, false, found, source)
+        }
+        TargetTree::OfSub(sub, port) => match find_sub_port(scope, sub, port) {
+            Some((_, found)) => admits(alloc, true, Some(found), source),
+            None => admits_source(alloc, &PortType::Bool, source),
+        },
+    }
+}
+
+fn source_of(typed: Typed) -> Source
+    ensures { meanings.source_meaning result ≡ specs.typed_source (walks.typed typed.entry) }
+{
+    match typed {
+        Typed::Truth(formula) => Source::Truth(formula),
+        Typed::Number(term, _) => Source::Number(term),
+        Typed::Choice(pick, _) => Source::Choice(pick),
+    }
+}
+
+/// A connection with its typed expression.
+#[tactic(auto, using(crate::proofs::Walking::walk_lemmas))]
+fn wire<'a>(
+    alloc: Global,
+    scope: &RefinementScope<'a>,
+    order: &FreeOrder,
+    target: &TargetTree,
+    source: &'a Expr,
+    first: &mut FirstSite,
+) -> Result<Wire, NoMemory>
+    ensures wire { IfOk result (λ w. Some (meanings.wire_meaning w)
+        ≡ making.wire_in (walks.target_by (walks.refinement scope.now)) (walks.connection_reading_by
+        (walks.refinement scope.now) order.now)
+        (RefinementItem.Connection target.now source.now)) }
+    ensures first { OnOk result (first.new
+        ≡ noted (source_faults (walks.connection_reading_by (walks.refinement scope.now) order.now)
+        (walks.kind_by (walks.refinement scope.now) target.now) (tree source.now)) first.old) }
+{
+    let names = Scope::Connection(*scope, order);
+    let (typed, uses) = used_expression(alloc, &names, source, first)?;
+    let fit = target_admits(alloc, scope, target, &typed)?;
+    note_unless(fit, start(source), first);
+    Ok(Wire {
+        target: target_of(scope, target),
+        source: source_of(typed),
+        uses,
+    })
+}
+
+/// Puts a connection at the end, where the item is one.
+#[tactic(auto, using(crate::proofs::Making::put_meaning))]
+fn put_wire<'a>(
+    alloc: Global,
+    scope: &RefinementScope<'a>,
+    order: &FreeOrder,
+    item: &'a RefinementItem,
+    wires: &mut Wires,
+    first: &mut FirstSite,
+) -> Result<(), NoMemory>
+    ensures wires { OnOk result (map meanings.wire_meaning wires.new ≡ map meanings.wire_meaning wires.old ++
+        cons_option
+        (making.wire_in (walks.target_by (walks.refinement scope.now))
+        (walks.connection_reading_by (walks.refinement scope.now) order.now) item.now) []) }
+    ensures first { OnOk result (first.new ≡ noted (making.wire_faults_by (walks.kind_by (walks.refinement scope.now))
+        (walks.connection_reading_by (walks.refinement scope.now) order.now) item.now) first.old) }
+{
+    match item {
+        RefinementItem::Sub {
+            name: _,
+            component: _,
+        } => Ok(()),
+        RefinementItem::Connection { target, source } => {
+            wires.push(wire(alloc, scope, order, target, source, first)?)
+        }
+        RefinementItem::Contract { name: _, parts: _ } => Ok(()),
+    }
+}
+
+/// The connections among these items.
+pub(crate) fn wires_of<'a>(
+    alloc: Global,
+    scope: &RefinementScope<'a>,
+    order: &FreeOrder,
+    items: &'a [RefinementItem],
+    first: &mut FirstSite,
+) -> Result<Wires, NoMemory>
+    ensures wires { IfOk result (λ made. map meanings.wire_meaning made ≡ filter_map
+        (making.wire_in (walks.target_by (walks.refinement scope.now))
+        (walks.connection_reading_by (walks.refinement scope.now) order.now)) items.now) }
+    ensures first { OnOk result (first.new ≡ noted (flat_map (making.wire_faults_by (walks.kind_by
+        (walks.refinement scope.now))
+        (walks.connection_reading_by (walks.refinement scope.now) order.now)) items.now) first.old) }
+{
+    let mut wires = Wires::new(alloc);
+    for item in items {
+        put_wire(alloc, scope, order, item, &mut wires, first)?;
+    }
+    Ok(wires)
+}
+
+fn put_target(
+    scope: &RefinementScope,
+    item: &RefinementItem,
+    targets: &mut Vec<Target>,
+) -> Result<(), NoMemory>
+    ensures { OnOk result (targets.new.items
+        ≡ targets.old.items ++ cons_option (making.targets_in (walks.target_by
+        (walks.refinement scope.now)) item.now) []) }
+{
+    match item {
+        RefinementItem::Sub {
+            name: _,
+            component: _,
+        } => Ok(()),
+        RefinementItem::Connection { target, source: _ } => {
+            targets.push(target_of(scope, target))?;
+            Ok(())
+        }
+        RefinementItem::Contract { name: _, parts: _ } => Ok(()),
+    }
+}
+
+/// The targets of the connections among these items.
+pub(crate) fn targets_of(
+    alloc: Global,
+    scope: &RefinementScope,
+    items: &[RefinementItem],
+) -> Result<Vec<Target>, NoMemory>
+    ensures { IfOk result (λ targets. targets.items
+        ≡ filter_map (making.targets_in (walks.target_by (walks.refinement scope.now))) items.now) }
+{
+    let mut targets = Vec::new(alloc);
+    for item in items {
+        put_target(scope, item, &mut targets)?;
+    }
+    Ok(targets)
+}
