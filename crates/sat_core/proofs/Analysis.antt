@@ -1,5 +1,5 @@
 -- The walk back along the trail from a clause whose literals are all false.
-use Rattle.std.proofs.Common.{◌≡◌, ◌<◌, ◌≤◌, ◌+◌, ℕ, true, false, List, [], ◌∷◌, ◌++◌, length, take, get_or, Contains, Option, Some, None, refl, sym, ap}
+use Rattle.std.proofs.Common.{◌≡◌, ◌<◌, ◌≤◌, ◌+◌, ℕ, true, List, [], ◌∷◌, ◌++◌, length, take, get_or, Contains, Option, Some, None, refl, sym, ap}
 use Rattle.std.proofs.Common.{◌∙◌, subst, inl, inr, arith}
 use Rattle.std.specs.Prelude.{IfSome}
 use Rattle.std.specs.Ordering.{ord_max, nat_cmp}
@@ -10,12 +10,12 @@ use Rattle.cnf.specs.declared.lit.Lit.{Lit}
 use Rattle.cnf.specs.Clauses.{opposite}
 use Rattle.sat_core.specs.declared.clause_ref.ClauseRef.{ClauseRef}
 use Rattle.sat_core.specs.declared.trail.Step.{Step}
-use Rattle.sat_core.specs.Search.{ClauseLists, clause_lists, HasClause, clause_of, IsDerivation, MadeTrue, AllFalse, Forces, Justifies, Justified, IsTrail}
+use Rattle.sat_core.specs.Search.{ClauseLists, HasClause, clause_of, IsDerivation, AllFalse, Forces, Justifies, Justified, IsTrail}
 use Rattle.sat_core.specs.Search.{lit_at, step_at, opens_level}
 use Rattle.sat_core.specs.Learning.{OthersFalse, SameReference, Asserts}
-use Rattle.sat_core.proofs.Trails.{opposite-opposite, MadeTrue-later, one_place, free_from_none, free_not_true, MadeTrue-within}
-use Rattle.sat_core.proofs.Chains.{before_or_at, named_without, IsDerivation-push, IsDerivation-start}
-use Rattle.sat_core.proofs.Members.{more_cases, no_lits}
+use Rattle.sat_core.proofs.Trails.{opposite-opposite, MadeTrue-later, one_place}
+use Rattle.sat_core.proofs.Chains.{before_or_at, IsDerivation-push, IsDerivation-start}
+use Rattle.sat_core.proofs.Members.{more_cases}
 
 abbrev pub link_of : ℕ → ClauseRef → Resolution
 link_of var reason = record { var = var; reason = reason }
@@ -24,21 +24,6 @@ some_same : (a b : ℕ) → Some a ≡ Some b → a ≡ b
 some_same a b e = cc
 
 module _ (steps : List Step) (places : List (Option ℕ)) (trail : IsTrail steps places) where
-  -- the place of a variable is where its literal was made false
-  pub false_at : (lit : Lit) (p : ℕ) → get_or places (lit.var) None ≡ Some p
-      → MadeTrue steps (length steps) (opposite lit) → (p < length steps) × (lit_at steps p ≡ opposite lit)
-  false_at lit p at t =
-      let var : (lit_at steps t.0).var ≡ lit.var = ap (λ (l : Lit). l.var) t.2 in
-      let e : p ≡ t.0 = some_same p t.0 (sym at ∙ ap (λ v. get_or places v None) (sym var) ∙ trail.placed t.0 t.1) in
-      (omega (arith, t.1), ap (λ q. lit_at steps q) e ∙ t.2)
-
-  pub false_has_place : (lit : Lit) → get_or places (lit.var) None ≡ None
-      → MadeTrue steps (length steps) (opposite lit) → ⊥
-  false_has_place lit none t = free_not_true steps (opposite lit) (free_from_none steps places trail (lit.var) none) t
-
-  pub false_within : (lit : Lit) → MadeTrue steps (length steps) (opposite lit) → lit.var < length places
-  false_within lit t = MadeTrue-within steps places trail (opposite lit) t
-
   -- a literal that was made false last stands last
   pub others_least : (n p : ℕ) (x but : Lit) (clause : List Lit) → OthersFalse steps n clause but → n ≤ length steps
       → Contains clause x → (x ≡ but → ⊥) → p < length steps → lit_at steps p ≡ opposite x → p + 1 ≤ n
@@ -62,9 +47,6 @@ module _ (steps : List Step) (xs : List Lit) (i : ℕ) (x : Lit) (h : i < length
     | inr new ↦ inr (p, lt, at ∙ ap opposite new)
   ]
 
-pub others-start : (steps : List Step) (xs : List Lit) (but : Lit) → OthersFalse steps 0 (take 0 xs) but
-others-start steps xs but m c = absurd (no_lits m c)
-
 -- literals false before the place after: all but the one at the place are false before it
 pub others_before : (steps : List Step) (at : ℕ) (clause : List Lit) → AllFalse steps (at + 1) clause
     → OthersFalse steps at clause (opposite (lit_at steps at))
@@ -80,9 +62,9 @@ AllFalse-later steps n m clause le all lit c = MadeTrue-later steps n m (opposit
 -- where an opening stands between the others and the literal, the clause turns the trail there
 pub turns_at : (steps : List Step) (places : List (Option ℕ)) (clause : List Lit) (at keep n : ℕ)
     → IsTrail steps places → at < length steps → Contains clause (opposite (lit_at steps at))
-    → OthersFalse steps n clause (opposite (lit_at steps at)) → n ≤ keep → keep < at + 1
+    → OthersFalse steps n clause (opposite (lit_at steps at)) → (n ≤ keep) × (keep < at + 1)
     → opens_level (step_at steps keep).reason ≡ true → Asserts steps clause (opposite (lit_at steps at)) keep
-turns_at steps places clause at keep n trail h has others le lt opens = record {
+turns_at steps places clause at keep n trail h has others (le, lt) opens = record {
   within = omega arith;
   opens = opens;
   forces = record {
@@ -94,32 +76,16 @@ turns_at steps places clause at keep n trail h has others le lt opens = record {
       absurd (omega arith);
 }
 
--- the reason of a step that opens no level names the same clause without assumptions
-pub agrees_without : (added learnt : List (List Lit)) (assumed : List Lit) (steps : List Step) (place : ℕ) (lit : Lit) (reason : Option ClauseRef)
-    → opens_level reason ≡ false → Justifies (clause_lists added learnt assumed) steps place lit reason
-    → SameReference (clause_lists added learnt []) (clause_lists added learnt assumed) reason
-agrees_without added learnt assumed steps place lit None o j = tt
-agrees_without added learnt assumed steps place lit (Some reason) o j = named_without added learnt assumed reason o j.0
-
--- a reason names the same clause as itself
-pub agrees_self : (k : ClauseLists) (steps : List Step) (place : ℕ) (lit : Lit) (reason : Option ClauseRef)
-    → Justifies k steps place lit reason → SameReference k k reason
-agrees_self k steps place lit None j = tt
-agrees_self k steps place lit (Some reason) j = (j.0, refl)
-
--- a step that opens no level was forced
-pub forced_of : (reason : Option ClauseRef) → opens_level reason ≡ false → reason ≡ None → ⊥
-forced_of None o e = cc
-forced_of (Some s) o e = cc
-
-pub turning_some : (steps : List Step) (places : List (Option ℕ)) (clause : List Lit) (at n : ℕ) (lit : Lit) (found : Option ℕ)
-    → lit ≡ opposite (lit_at steps at) → IsTrail steps places → at < length steps → Contains clause lit → OthersFalse steps n clause lit
+pub turning_some : (steps : List Step) (places : List (Option ℕ)) (clause : List Lit) (at n : ℕ) (lit : Lit)
+    (found : Option ℕ)
+    → lit ≡ opposite (lit_at steps at) → IsTrail steps places → at < length steps → Contains clause lit
+    → OthersFalse steps n clause lit
     → IfSome found (λ place. (n ≤ place) × (place < at + 1) × (opens_level (step_at steps place).reason ≡ true))
     → IfSome found (λ keep. Asserts steps clause (opposite (lit_at steps at)) keep)
 turning_some steps places clause at n lit None e trail h has others found = tt
 turning_some steps places clause at n lit (Some keep) e trail h has others found =
     turns_at steps places clause at keep n trail h (subst (λ (l : Lit). Contains clause l) e has)
-    (subst (λ (l : Lit). OthersFalse steps n clause l) e others) found.0 found.1 found.2
+    (subst (λ (l : Lit). OthersFalse steps n clause l) e others) (found.0, found.1) found.2
 
 -- what justifies a step with a reason
 pub justified_by : (k : ClauseLists) (steps : List Step) (at : ℕ) (step : Step) (reason : ClauseRef)
@@ -131,9 +97,10 @@ justified_by k steps at step reason justified h e is =
 
 pub derived_step : (k kf : ClauseLists) (steps : List Step) (at : ℕ) (step : Step) (reason first new_first : ClauseRef)
     (resolutions new_links : List Resolution) (left after : List Lit) → step ≡ step_at steps at → step.reason ≡ Some reason
-    → SameReference k kf (step_at steps at).reason → Resolves left (clause_of kf reason) (opposite step.lit) after → new_first ≡ first
-    → new_links ≡ resolutions ++ link_of step.lit.var reason ∷ [] → IsDerivation k first resolutions left → IsDerivation k new_first new_links after
-derived_step k kf steps at step reason first new_first resolutions new_links left after e is agrees r f l d =
+    → SameReference k kf (step_at steps at).reason → Resolves left (clause_of kf reason) (opposite step.lit) after
+    → (new_first ≡ first) × (new_links ≡ resolutions ++ link_of step.lit.var reason ∷ [])
+    → IsDerivation k first resolutions left → IsDerivation k new_first new_links after
+derived_step k kf steps at step reason first new_first resolutions new_links left after e is agrees r (f, l) d =
     let a = subst (λ (o : Option ClauseRef). SameReference k kf o) (ap (λ (s : Step). s.reason) (sym e) ∙ is) agrees in
     let r2 = subst (λ (c : List Lit). Resolves left c (opposite step.lit) after) (sym a.1) r in
     let pushed = IsDerivation-push k first left after resolutions (link_of step.lit.var reason) (opposite step.lit) d a.0 refl r2 in

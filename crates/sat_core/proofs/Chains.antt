@@ -27,17 +27,21 @@ resolves-same xs ys right after pivot s r = record {
 }
 
 -- one resolution more
-pub ResolvesTo-push : (k : ClauseLists) (so_far mid after : List Lit) (resolutions : List Resolution) (resolution : Resolution) (pivot : Lit)
+pub ResolvesTo-push : (k : ClauseLists) (so_far mid after : List Lit) (resolutions : List Resolution)
+    (resolution : Resolution) (pivot : Lit)
     → ResolvesTo k so_far resolutions mid → HasClause k resolution.reason → pivot.var ≡ resolution.var
-    → Resolves mid (clause_of k resolution.reason) pivot after → ResolvesTo k so_far (resolutions ++ resolution ∷ []) after
+    → Resolves mid (clause_of k resolution.reason) pivot after → ResolvesTo k so_far
+    (resolutions ++ resolution ∷ []) after
 ResolvesTo-push k so_far mid after [] resolution pivot h names var r =
     (names, (pivot, after, var, resolves-same so_far mid (clause_of k resolution.reason) after pivot h r, same-refl after))
 ResolvesTo-push k so_far mid after (l ∷ resolutions) resolution pivot h names var r =
     (h.0, (h.1.0, h.1.1, h.1.2, h.1.3, ResolvesTo-push k h.1.1 mid after resolutions resolution pivot h.1.4 names var r))
 
-pub IsDerivation-push : (k : ClauseLists) (first : ClauseRef) (mid after : List Lit) (resolutions : List Resolution) (resolution : Resolution)
+pub IsDerivation-push : (k : ClauseLists) (first : ClauseRef) (mid after : List Lit) (resolutions : List Resolution)
+    (resolution : Resolution)
     (pivot : Lit) → IsDerivation k first resolutions mid → HasClause k resolution.reason → pivot.var ≡ resolution.var
-    → Resolves mid (clause_of k resolution.reason) pivot after → IsDerivation k first (resolutions ++ resolution ∷ []) after
+    → Resolves mid (clause_of k resolution.reason) pivot after → IsDerivation k first
+    (resolutions ++ resolution ∷ []) after
 IsDerivation-push k first mid after resolutions resolution pivot d names var r =
     record { named = d.named; reached = ResolvesTo-push k (clause_of k first) mid after resolutions resolution pivot d.reached names var r }
 
@@ -89,7 +93,8 @@ none_false steps (x ∷ xs) h = absurd (omega (arith, (h x (Contains-head x xs))
 
 -- the removal of a literal from one side and of its opposite from the other
 pub resolves_from : (left right mid after : List Lit) (lit : Lit) → Contains left (opposite lit) → Contains right lit
-    → ((m : Lit) → (Contains mid m → Contains left m × (m ≢ opposite lit)) × (Contains left m × (m ≢ opposite lit) → Contains mid m))
+    → ((m : Lit) → (Contains mid m → Contains left m × (m ≢ opposite lit)) ×
+    (Contains left m × (m ≢ opposite lit) → Contains mid m))
     → ((m : Lit) → (Contains after m → Contains mid m ⊎ (Contains right m × (m ≢ lit))) ×
     (Contains mid m ⊎ (Contains right m × (m ≢ lit)) → Contains after m)) → Resolves left right (opposite lit) after
 resolves_from left right mid after lit on_left on_right dropped resolvent = record {
@@ -102,9 +107,9 @@ resolves_from left right mid after lit on_left on_right dropped resolvent = reco
 }
 
 pub resolved : (left right mid after sl r : List Lit) (lit neg : Lit) → sl ≡ left → neg ≡ opposite lit → r ≡ right
-    → IsWithout sl neg mid → IsJoined mid r lit after → Contains left (opposite lit) → Contains right lit
+    → IsWithout sl neg mid → IsJoined mid r lit after → Contains left (opposite lit) × Contains right lit
     → Resolves left right (opposite lit) after
-resolved left right mid after sl r lit neg e1 e2 e3 d j on_left on_right =
+resolved left right mid after sl r lit neg e1 e2 e3 d j (on_left, on_right) =
     let d1 = subst (λ (n : Lit). IsWithout sl n mid) e2 d in
     let d2 = subst (λ (l : List Lit). IsWithout l (opposite lit) mid) e1 d1 in
     let j1 = subst (λ (l : List Lit). IsJoined mid l lit after) e3 j in
@@ -113,7 +118,8 @@ resolved left right mid after sl r lit neg e1 e2 e3 d j on_left on_right =
 -- a clause that was added or learnt needs no assumption
 pub named_without : (added learnt : List (List Lit)) (assumed : List Lit) (reason : ClauseRef)
     → opens_level (Some reason) ≡ false → HasClause (clause_lists added learnt assumed) reason
-    → HasClause (clause_lists added learnt []) reason × (clause_of (clause_lists added learnt []) reason ≡ clause_of (clause_lists added learnt assumed) reason)
+    → HasClause (clause_lists added learnt []) reason ×
+    (clause_of (clause_lists added learnt []) reason ≡ clause_of (clause_lists added learnt assumed) reason)
 named_without added learnt assumed (Added place) o n = (n, refl)
 named_without added learnt assumed (Learnt place) o n = (n, refl)
 named_without added learnt assumed (Assumed place) o n = absurd (cc)

@@ -64,8 +64,10 @@ AreDerivations-added added learnt derivations clause a = record {
 }
 
 -- and where one more is learnt
-pub AreDerivations-learnt : (added learnt : List (List Lit)) (derivations : List Derivation) (clause : List Lit) (derivation : Derivation)
-    → AreDerivations added learnt derivations → IsDerivation (clause_lists added learnt []) derivation.first derivation.rest.items clause
+pub AreDerivations-learnt : (added learnt : List (List Lit)) (derivations : List Derivation) (clause : List Lit)
+    (derivation : Derivation)
+    → AreDerivations added learnt derivations → IsDerivation
+    (clause_lists added learnt []) derivation.first derivation.rest.items clause
     → AreDerivations added (learnt ++ clause ∷ []) (derivations ++ derivation ∷ [])
 AreDerivations-learnt added learnt derivations clause derivation a d = record {
   same = omega (arith, a.same, length_push learnt clause, length_push derivations derivation);

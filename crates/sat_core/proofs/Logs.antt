@@ -42,9 +42,11 @@ leads k needed na numbers clauses placed so_far (resolution ∷ resolutions) cla
       ),
     )
 
-pub follows_from : (k : ClauseLists) (needed : List Bool) (na : ℕ) (numbers : List ℕ) (clauses : List (List Lit)) (first : ClauseRef)
+pub follows_from : (k : ClauseLists) (needed : List Bool) (na : ℕ) (numbers : List ℕ) (clauses : List (List Lit))
+    (first : ClauseRef)
     (resolutions : List Resolution) (chain : Chain) → IsPlaced k needed (log_number na numbers) clauses → AllNeeded needed first resolutions
-    → IsDerivation k first resolutions chain.clause → chain.first ≡ log_number na numbers first → chain.rest ≡ map (log_pivot na numbers) resolutions
+    → IsDerivation k first resolutions chain.clause → chain.first ≡ log_number na numbers first → chain.rest ≡ map
+    (log_pivot na numbers) resolutions
     → Follows clauses chain
 follows_from k needed na numbers clauses first resolutions chain placed need d e f =
     let at = placed first d.named need.of_first in
@@ -59,7 +61,8 @@ before_push : (cnf : List (List Lit)) (log : List Chain) (chain : Chain) (k : �
 before_push cnf log chain k h = ap (λ (l : List Chain). cnf ++ map (λ c. c.clause) l) (take-append-le k log (chain ∷ []) h)
 
 before_all : (cnf : List (List Lit)) (log : List Chain) (chain : Chain)
-    → clauses_before cnf (log ++ chain ∷ []) (length (log ++ chain ∷ [])) ≡ clauses_before cnf log (length log) ++ chain.clause ∷ []
+    → clauses_before cnf (log ++ chain ∷ []) (length (log ++ chain ∷ [])) ≡ clauses_before cnf log (length log)
+    ++ chain.clause ∷ []
 before_all cnf log chain =
     let name : Chain → List Lit = λ c. c.clause in
     ap (λ (l : List Chain). cnf ++ map name l) (take_all (length (log ++ chain ∷ [])) (log ++ chain ∷ []) (omega arith))
@@ -95,8 +98,10 @@ follows_push cnf log chain old last k c at =
 pub none_follow : (cnf : List (List Lit)) → EachFollows cnf []
 none_follow cnf k c at = absurd (omega (arith, slice_get_within [] k c at))
 
-pub placed_by : (added learnt : List (List Lit)) (assumed units : List Lit) (needed : List Bool) (count : ℕ) (numbers : List ℕ) (log : List Chain)
-    → (units ≡ assumed) ⊎ (units ≡ []) → count ≤ length learnt → IsNumbered added learnt assumed needed count numbers log
+pub placed_by : (added learnt : List (List Lit)) (assumed units : List Lit) (needed : List Bool) (count : ℕ)
+    (numbers : List ℕ) (log : List Chain)
+    → (units ≡ assumed) ⊎ (units ≡ []) → count ≤ length learnt
+    → IsNumbered added learnt assumed needed count numbers log
     → IsPlaced (clause_lists added (take count learnt) units) needed (log_number (length added) numbers)
     (clauses_before (clauses_with_units added assumed) log (length log))
 placed_by added learnt assumed units needed count numbers log u short n (Added p) named need =
@@ -133,9 +138,11 @@ placed_by added learnt assumed units needed count numbers log u short n (Learnt 
     (omega (arith, len, at.0), at.1 ∙ sym (get_or-take count learnt p [] lt))
 
 -- a learnt clause more that is needed, with its chain
-pub IsNumbered-chain : (added learnt : List (List Lit)) (assumed : List Lit) (needed : List Bool) (count number : ℕ) (numbers : List ℕ)
+pub IsNumbered-chain : (added learnt : List (List Lit)) (assumed : List Lit) (needed : List Bool) (count number : ℕ)
+    (numbers : List ℕ)
     (log : List Chain) (chain : Chain) → IsNumbered added learnt assumed needed count numbers log
-    → Follows (clauses_before (clauses_with_units added assumed) log (length log)) chain → chain.clause ≡ get_or learnt count []
+    → Follows (clauses_before (clauses_with_units added assumed) log (length log)) chain → chain.clause
+    ≡ get_or learnt count []
     → number ≡ length (clauses_with_units added assumed) + length log
     → IsNumbered added learnt assumed needed (count + 1) (numbers ++ number ∷ []) (log ++ chain ∷ [])
 IsNumbered-chain added learnt assumed needed count number numbers log chain n f c e =
@@ -170,7 +177,8 @@ IsNumbered-chain added learnt assumed needed count number numbers log chain n f 
     }
 
 -- a learnt clause more that isn't needed
-pub IsNumbered-skip : (added learnt : List (List Lit)) (assumed : List Lit) (needed : List Bool) (count number : ℕ) (numbers : List ℕ)
+pub IsNumbered-skip : (added learnt : List (List Lit)) (assumed : List Lit) (needed : List Bool) (count number : ℕ)
+    (numbers : List ℕ)
     (log : List Chain) → IsNumbered added learnt assumed needed count numbers log → get_or needed count true ≡ false
     → IsNumbered added learnt assumed needed (count + 1) (numbers ++ number ∷ []) log
 IsNumbered-skip added learnt assumed needed count number numbers log n skip =
@@ -193,16 +201,9 @@ IsNumbered-skip added learnt assumed needed count number numbers log n skip =
       ];
     }
 
-pub IsNumbered-start : (added learnt : List (List Lit)) (assumed : List Lit) (needed : List Bool)
-    → IsNumbered added learnt assumed needed 0 [] []
-IsNumbered-start added learnt assumed needed = record {
-  counted = refl;
-  follows = none_follow (clauses_with_units added assumed);
-  numbered = λ p h need. absurd (omega arith);
-}
-
 -- the log with the chain of the empty clause behind it
-pub derives_by : (added learnt : List (List Lit)) (assumed : List Lit) (needed : List Bool) (count : ℕ) (numbers : List ℕ) (log : List Chain)
+pub derives_by : (added learnt : List (List Lit)) (assumed : List Lit) (needed : List Bool) (count : ℕ)
+    (numbers : List ℕ) (log : List Chain)
     (chain : Chain) → IsNumbered added learnt assumed needed count numbers log
     → Follows (clauses_before (clauses_with_units added assumed) log (length log)) chain → chain.clause ≡ []
     → Derives (clauses_with_units added assumed) (log ++ chain ∷ [])
@@ -226,9 +227,11 @@ named_number added learnt units numbers (Added p) h w n = tt
 named_number added learnt units numbers (Assumed p) h w n = omega (arith, n, length-map units unit_clause)
 named_number added learnt units numbers (Learnt p) h w n = omega (arith, n)
 
-pub derived_numbers : (added learnt : List (List Lit)) (units : List Lit) (numbers : List ℕ) (first : ClauseRef) (resolutions : List Resolution)
+pub derived_numbers : (added learnt : List (List Lit)) (units : List Lit) (numbers : List ℕ) (first : ClauseRef)
+    (resolutions : List Resolution)
     (clause : List Lit) → length learnt ≤ length numbers → length added + length units < 2 ^ 64
-    → IsDerivation (clause_lists added learnt units) first resolutions clause → AllHaveNumbers (length added) numbers first resolutions
+    → IsDerivation (clause_lists added learnt units) first resolutions clause → AllHaveNumbers
+    (length added) numbers first resolutions
 derived_numbers added learnt units numbers first resolutions clause h w d = record {
   of_first = named_number added learnt units numbers first h w d.named;
   of_rest = λ place none lt. named_number added learnt units numbers (get_or resolutions place none).reason h w
@@ -242,7 +245,8 @@ named_below added learnt units n (Assumed p) h w = tt
 named_below added learnt units n (Learnt p) h w = omega (arith, w)
 
 -- a derivation names only clauses learnt before
-pub derived_below : (added learnt : List (List Lit)) (units : List Lit) (n : ℕ) (first : ClauseRef) (resolutions : List Resolution)
+pub derived_below : (added learnt : List (List Lit)) (units : List Lit) (n : ℕ) (first : ClauseRef)
+    (resolutions : List Resolution)
     (clause : List Lit) → length learnt ≤ n → IsDerivation (clause_lists added learnt units) first resolutions clause → AllBelow n first resolutions
 derived_below added learnt units n first resolutions clause h d = record {
   of_first = named_below added learnt units n first h d.named;
@@ -294,18 +298,10 @@ pub record IsMarkedSoFar (old new : List Bool) (first : ClauseRef) (resolutions 
   pub kept : (n place : ℕ) → AllBelow n first resolutions → n ≤ place → get_or new place true ≡ get_or old place true
   pub len : length new ≡ length old
 
-pub marked_start : (old : List Bool) (first : ClauseRef) (resolutions : List Resolution) → IsBelow (length old) first
-    → IsMarkedSoFar old (marks_with old first) first resolutions 0
-marked_start old first resolutions b = record {
-  more = λ p e. marked_more old first p e;
-  of_first = marked_itself old first b;
-  of_rest = λ p none h. absurd (omega arith);
-  kept = λ n p below h. marked_kept old first n p below.of_first h;
-  len = length_marked old first;
-}
-
-pub marked_next : (old new : List Bool) (first : ClauseRef) (resolutions : List Resolution) (i : ℕ) (resolution : Resolution) → i < length resolutions
-    → resolution ≡ get_or resolutions i resolution → IsBelow (length old) resolution.reason → IsMarkedSoFar old new first resolutions i
+pub marked_next : (old new : List Bool) (first : ClauseRef) (resolutions : List Resolution) (i : ℕ)
+    (resolution : Resolution) → i < length resolutions
+    → resolution ≡ get_or resolutions i resolution → IsBelow (length old) resolution.reason
+    → IsMarkedSoFar old new first resolutions i
     → IsMarkedSoFar old (marks_with new resolution.reason) first resolutions (i + 1)
 marked_next old new first resolutions i resolution h e b m = record {
   more = λ p x. marked_more new resolution.reason p (m.more p x);
@@ -323,24 +319,14 @@ marked_next old new first resolutions i resolution h e b m = record {
   len = length_marked new resolution.reason ∙ m.len;
 }
 
-pub marked_first : (old new : List Bool) (first : ClauseRef) (resolutions : List Resolution)
-    → new ≡ marks_with old first → IsBelow (length old) first → IsMarkedSoFar old new first resolutions 0
-marked_first old new first resolutions e b = subst (λ l. IsMarkedSoFar old l first resolutions 0) (sym e) (marked_start old first resolutions b)
-
-pub marked_more_links : (old new grown : List Bool) (first : ClauseRef) (resolutions : List Resolution) (i : ℕ) (resolution : Resolution)
+pub marked_more_links : (old new grown : List Bool) (first : ClauseRef) (resolutions : List Resolution) (i : ℕ)
+    (resolution : Resolution)
     → i < length resolutions → resolution ≡ get_or resolutions i resolution → grown ≡ marks_with new resolution.reason
-    → AllBelow (length old) first resolutions → IsMarkedSoFar old new first resolutions i → IsMarkedSoFar old grown first resolutions (i + 1)
+    → AllBelow (length old) first resolutions → IsMarkedSoFar old new first resolutions i
+    → IsMarkedSoFar old grown first resolutions (i + 1)
 marked_more_links old new grown first resolutions i resolution h e g b m =
     let below : IsBelow (length old) resolution.reason = subst (λ (l : Resolution). IsBelow (length old) l.reason) (sym e) (b.of_rest i resolution h) in
     subst (λ l. IsMarkedSoFar old l first resolutions (i + 1)) (sym g) (marked_next old new first resolutions i resolution h e below m)
-
-pub marked_done : (old new : List Bool) (first : ClauseRef) (resolutions : List Resolution) (i : ℕ)
-    → length resolutions ≤ i → IsMarkedSoFar old new first resolutions i → MarksMore old new first resolutions
-marked_done old new first resolutions i h m = record {
-  more = m.more;
-  all = record { of_first = m.of_first; of_rest = λ p none lt. m.of_rest p none (omega (arith, lt)) };
-  kept = m.kept;
-}
 
 needed_more : (old new : List Bool) (reason : ClauseRef)
     → ((p : ℕ) → get_or old p true ≡ true → get_or new p true ≡ true) → IsNeeded old reason → IsNeeded new reason
@@ -391,54 +377,74 @@ pub length_clauses : (added : List (List Lit)) (assumed : List Lit)
     → length (clauses_with_units added assumed) ≡ length added + length assumed
 length_clauses added assumed = length-append added (map unit_clause assumed) ∙ ap (λ n. length added + n) (length-map assumed unit_clause)
 
+-- the chain of a derivation: its clause, and its numbers where the learnt clauses have these
+pub record IsChainOf (added : ℕ) (ns : List ℕ) (clause : List Lit) (first : ClauseRef) (resolutions : List Resolution)
+    (chain : Chain) : Type 0 where
+  pub clause_is : chain.clause ≡ clause
+  pub first_is : chain.first ≡ log_number added ns first
+  pub rest_is : chain.rest ≡ map (log_pivot added ns) resolutions
+
+-- the numbers with one more, and the log with its chain
+pub record IsLongerBy (numbers grown : List ℕ) (number : ℕ) (log longer : List Chain) (chain : Chain) : Type 0 where
+  pub numbers_are : grown ≡ numbers ++ number ∷ []
+  pub chains_are : longer ≡ log ++ chain ∷ []
+
+-- the next learnt clause is needed, and this is its derivation
+pub record IsNext (learnt : List (List Lit)) (derivations : List Derivation) (needed : List Bool) (place : ℕ)
+    (d : Derivation) : Type 0 where
+  pub within : place < length learnt
+  pub is : d ≡ get_or derivations place d
+  pub need : get_or needed place true ≡ true
+
 -- one learnt clause more, with its chain
-pub chain_next : (added learnt : List (List Lit)) (assumed : List Lit) (needed : List Bool) (place number : ℕ) (numbers ns grown : List ℕ)
-    (log longer : List Chain) (chain : Chain) (derivations : List Derivation) (d : Derivation) → AreDerivations added learnt derivations
-    → AreNeeded needed derivations → place < length learnt → d ≡ get_or derivations place d → get_or needed place true ≡ true
-    → chain.clause ≡ get_or learnt place [] → chain.first ≡ log_number (length added) ns d.first
-    → chain.rest ≡ map (log_pivot (length added) ns) d.rest.items → ns ≡ numbers → number ≡ length added + length assumed + length log
-    → grown ≡ numbers ++ number ∷ [] → longer ≡ log ++ chain ∷ [] → IsNumbered added learnt assumed needed place numbers log
+pub chain_next : (added learnt : List (List Lit)) (assumed : List Lit) (needed : List Bool) (place number : ℕ)
+    (numbers grown : List ℕ) (log longer : List Chain) (chain : Chain) (derivations : List Derivation) (d : Derivation)
+    → AreDerivations added learnt derivations × AreNeeded needed derivations
+    → IsNext learnt derivations needed place d
+    → IsChainOf (length added) numbers (get_or learnt place []) d.first d.rest.items chain
+    → number ≡ length added + length assumed + length log → IsLongerBy numbers grown number log longer chain
+    → IsNumbered added learnt assumed needed place numbers log
     → IsNumbered added learnt assumed needed (place + 1) grown longer
-chain_next added learnt assumed needed place number numbers ns grown log longer chain derivations d derived needs h is need clause first rest ns_is
-    number_is grown_is longer_is n =
+chain_next added learnt assumed needed place number numbers grown log longer chain derivations d (derived, needs) next made number_is more n =
     let k = clause_lists added (take place learnt) [] in
-    let h2 : place < length derivations = omega (arith, derived.same) in
-    let x = subst (λ (y : Derivation). IsDerivation k y.first y.rest.items (get_or learnt place [])) (sym is) (derived.each place d h) in
-    let x2 = subst (λ (c : List Lit). IsDerivation k d.first d.rest.items c) (sym clause) x in
-    let a = subst (λ (y : Derivation). AllNeeded needed y.first y.rest.items) (sym is) (needs place d h2 need) in
-    let f = subst (λ (l : List ℕ). chain.first ≡ log_number (length added) l d.first) ns_is first in
-    let r = subst (λ (l : List ℕ). chain.rest ≡ map (log_pivot (length added) l) d.rest.items) ns_is rest in
-    let placed = placed_by added learnt assumed [] needed place numbers log (inr refl) (omega arith) n in
+    let h2 : place < length derivations = omega (arith, derived.same, next.within) in
+    let x = subst (λ (y : Derivation). IsDerivation k y.first y.rest.items (get_or learnt place [])) (sym next.is) (derived.each place d next.within) in
+    let x2 = subst (λ (c : List Lit). IsDerivation k d.first d.rest.items c) (sym made.clause_is) x in
+    let a = subst (λ (y : Derivation). AllNeeded needed y.first y.rest.items) (sym next.is) (needs place d h2 next.need) in
+    let placed = placed_by added learnt assumed [] needed place numbers log (inr refl) (omega (arith, next.within)) n in
     let follows = follows_from k needed (length added) numbers
-    (clauses_before (clauses_with_units added assumed) log (length log)) d.first d.rest.items chain placed a x2 f r in
-    subst (λ (g : List ℕ). IsNumbered added learnt assumed needed (place + 1) g longer) (sym grown_is)
-    (subst (λ (l : List Chain). IsNumbered added learnt assumed needed (place + 1) (numbers ++ number ∷ []) l) (sym longer_is)
-    (IsNumbered-chain added learnt assumed needed place number numbers log chain n follows clause (omega (arith, number_is, length_clauses added assumed))))
+    (clauses_before (clauses_with_units added assumed) log (length log)) d.first d.rest.items chain placed a x2 made.first_is made.rest_is in
+    subst (λ (g : List ℕ). IsNumbered added learnt assumed needed (place + 1) g longer) (sym more.numbers_are)
+    (subst (λ (l : List Chain). IsNumbered added learnt assumed needed (place + 1) (numbers ++ number ∷ []) l) (sym more.chains_are)
+    (IsNumbered-chain added learnt assumed needed place number numbers log chain n follows made.clause_is
+    (omega (arith, number_is, length_clauses added assumed))))
 
 -- one that isn't needed
-pub skip_next : (added learnt : List (List Lit)) (assumed : List Lit) (needed : List Bool) (place number : ℕ) (numbers grown : List ℕ)
+pub skip_next : (added learnt : List (List Lit)) (assumed : List Lit) (needed : List Bool) (place number : ℕ)
+    (numbers grown : List ℕ)
     (log same : List Chain) → get_or needed place true ≡ false → grown ≡ numbers ++ number ∷ [] → same ≡ log
-    → IsNumbered added learnt assumed needed place numbers log → IsNumbered added learnt assumed needed (place + 1) grown same
+    → IsNumbered added learnt assumed needed place numbers log → IsNumbered added learnt assumed needed
+    (place + 1) grown same
 skip_next added learnt assumed needed place number numbers grown log same skip grown_is same_is n =
     subst (λ (g : List ℕ). IsNumbered added learnt assumed needed (place + 1) g same) (sym grown_is)
     (subst (λ (l : List Chain). IsNumbered added learnt assumed needed (place + 1) (numbers ++ number ∷ []) l) (sym same_is)
     (IsNumbered-skip added learnt assumed needed place number numbers log n skip))
 
 -- the whole log
-pub log_done : (added learnt : List (List Lit)) (assumed : List Lit) (needed : List Bool) (numbers ns : List ℕ) (log longer : List Chain)
-    (chain : Chain) (first : ClauseRef) (resolutions : List Resolution) → IsNumbered added learnt assumed needed (length learnt) numbers log
-    → AllNeeded needed first resolutions → IsDerivation (clause_lists added learnt assumed) first resolutions [] → chain.clause ≡ []
-    → chain.first ≡ log_number (length added) ns first → chain.rest ≡ map (log_pivot (length added) ns) resolutions → ns ≡ numbers
-    → longer ≡ log ++ chain ∷ [] → Derives (clauses_with_units added assumed) longer
-log_done added learnt assumed needed numbers ns log longer chain first resolutions n a d clause first_is rest_is ns_is longer_is =
+pub log_done : (added learnt : List (List Lit)) (assumed : List Lit) (needed : List Bool) (numbers : List ℕ)
+    (log longer : List Chain) (chain : Chain) (first : ClauseRef) (resolutions : List Resolution)
+    → IsNumbered added learnt assumed needed (length learnt) numbers log → AllNeeded needed first resolutions
+    → IsDerivation (clause_lists added learnt assumed) first resolutions []
+    → IsChainOf (length added) numbers [] first resolutions chain → longer ≡ log ++ chain ∷ []
+    → Derives (clauses_with_units added assumed) longer
+log_done added learnt assumed needed numbers log longer chain first resolutions n a d made longer_is =
     let clauses = clauses_before (clauses_with_units added assumed) log (length log) in
     let all : take (length learnt) learnt ≡ learnt = take_all (length learnt) learnt (omega arith) in
     let placed = placed_by added learnt assumed assumed needed (length learnt) numbers log (inl refl) (omega arith) n in
     let placed2 = subst (λ (ls : List (List Lit)). IsPlaced (clause_lists added ls assumed) needed
     (log_number (length added) numbers) clauses) all placed in
-    let d2 = subst (λ (c : List Lit). IsDerivation (clause_lists added learnt assumed) first resolutions c) (sym clause) d in
-    let f = subst (λ (l : List ℕ). chain.first ≡ log_number (length added) l first) ns_is first_is in
-    let r = subst (λ (l : List ℕ). chain.rest ≡ map (log_pivot (length added) l) resolutions) ns_is rest_is in
-    let follows = follows_from (clause_lists added learnt assumed) needed (length added) numbers clauses first resolutions chain placed2 a d2 f r in
+    let d2 = subst (λ (c : List Lit). IsDerivation (clause_lists added learnt assumed) first resolutions c) (sym made.clause_is) d in
+    let follows = follows_from (clause_lists added learnt assumed) needed (length added) numbers clauses first resolutions chain placed2 a d2
+    made.first_is made.rest_is in
     subst (λ (l : List Chain). Derives (clauses_with_units added assumed) l) (sym longer_is)
-    (derives_by added learnt assumed needed (length learnt) numbers log chain n follows clause)
+    (derives_by added learnt assumed needed (length learnt) numbers log chain n follows made.clause_is)

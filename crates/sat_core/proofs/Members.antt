@@ -82,9 +82,3 @@ module _ (xs : List Lit) (i : ℕ) (x : Lit) (h : i < length xs) (e : x ≡ get_
       ]
     ],
   )
-
-pub without-start : (xs : List Lit) (lit : Lit) (out : List Lit) → out ≡ [] → IsWithout (take 0 xs) lit out
-without-start xs lit out e m = (λ c. absurd (no_lits m (subst (λ l. Contains l m) e c)), λ c. absurd (no_lits m c.0))
-
-pub resolvent-start : (xs : List Lit) (but : Lit) (all : List Lit) → IsJoined all (take 0 xs) but all
-resolvent-start xs but all m = (λ c. inl c, λ c. elim c [ inl o ↦ o | inr t ↦ absurd (no_lits m t.0) ])

@@ -7,10 +7,8 @@ use Rattle.std.proofs.lemmas.List.{get_or_append_left, get_or-append_right, get_
 use Rattle.std.proofs.lemmas.Bool.{cases_lt, cases_eq}
 use Rattle.cnf.specs.declared.lit.Lit.{Lit}
 use Rattle.cnf.specs.Clauses.{opposite, lit_holds, clause_holds, IsModel}
-use Rattle.sat_core.specs.declared.clause_ref.ClauseRef.TheVariants.{Added}
 use Rattle.sat_core.specs.declared.trail.Step.{Step}
 use Rattle.sat_core.specs.Search.{clause_lists, unit_clause, MadeTrue, AllFalse, AssumptionsTrue, IsTrail, AllWithin, lit_at}
-use Rattle.sat_core.specs.Found.{NothingFalsified}
 use Rattle.sat_core.specs.Decisions.{AllAssigned}
 use Rattle.sat_core.proofs.Trails.{same_lit, other_sign, MadeTrue-within}
 use Rattle.sat_core.proofs.Members.{any_lit}
@@ -66,7 +64,8 @@ bool_same false true = inr (λ e. cc)
 bool_same false false = inl refl
 
 module _ (steps : List Step) (places : List (Option ℕ)) (trail : IsTrail steps places) (placed : AllAssigned places) where
-  placed_at : (v : ℕ) (o : Option ℕ) → v < length places → get_or places v None ≡ o → (p : ℕ) × (p < length steps) × ((lit_at steps p).var ≡ v)
+  placed_at : (v : ℕ) (o : Option ℕ) → v < length places → get_or places v None ≡ o → (p : ℕ) × (p < length steps) ×
+      ((lit_at steps p).var ≡ v)
   placed_at v None h e = absurd (placed v h e)
   placed_at v (Some p) h e = let on = trail.stands v p e in (p, on.0, on.1)
 
@@ -91,18 +90,17 @@ module _ (steps : List Step) (places : List (Option ℕ)) (trail : IsTrail steps
         | inr f ↦ f
       ]))
 
-  pub model_from : (added learnt : List (List Lit)) (assumed : List Lit) (values : List Bool) (n : ℕ)
-      → length values ≡ n → Reflects steps values → AllWithin (length places) added
-      → NothingFalsified (clause_lists added learnt assumed) steps
-      → AssumptionsTrue (clause_lists added learnt assumed) steps (length steps)
-      → IsModel n (added ++ map unit_clause assumed) values
+  pub model_from : (added learnt : List (List Lit)) (assumed : List Lit) (values : List Bool) (n : ℕ) → length values
+      ≡ n → Reflects steps values → AllWithin (length places) added →
+      ((k : ℕ) → k < length added → AllFalse steps (length steps) (get_or added k []) → ⊥) → AssumptionsTrue
+      (clause_lists added learnt assumed) steps (length steps) → IsModel n (added ++ map unit_clause assumed) values
   model_from added learnt assumed values n len r within quiet assumptions = record {
     vars = len;
     holds = all_true (clause_holds values) (added ++ map unit_clause assumed) (λ k h.
         elim (cases_lt k (length added)) [
           | inl lt ↦
               ap (λ c. clause_holds values c) (get_or_append_left added (map unit_clause assumed) [] k lt)
-              ∙ clause_true values (get_or added k []) r (within k lt) (λ all. quiet (Added k) (record { named = lt; kept = refl; all = all }))
+              ∙ clause_true values (get_or added k []) r (within k lt) (quiet k lt)
           | inr ge ↦
               let j = k - length added in
               let short : j < length assumed = omega (arith, length-append added (map unit_clause assumed), length-map assumed unit_clause) in
@@ -127,13 +125,21 @@ reflects_next steps values new n b len e old here lit t h =
       | inr other ↦ get_or_append_left values (b ∷ []) false lit.var (omega (arith, other)) ∙ old lit t (omega (arith, other))
     ]
 
-pub model_of : (steps : List Step) (places : List (Option ℕ)) (added learnt : List (List Lit)) (assumed : List Lit) (values model : List Bool) (n : ℕ)
-    → model ≡ values → length values ≡ n → length places ≤ n → n ≤ length places → IsTrail steps places → AllAssigned places
-    → AllWithin (length places) added → NothingFalsified (clause_lists added learnt assumed) steps
-    → AssumptionsTrue (clause_lists added learnt assumed) steps (length steps)
+-- where a search is done: each variable has a value, no added clause is false, and each assumption is true
+pub record IsDone (steps : List Step) (places : List (Option ℕ)) (added learnt : List (List Lit)) (assumed : List Lit)
+    : Type 0 where
+  pub trail : IsTrail steps places
+  pub placed : AllAssigned places
+  pub within : AllWithin (length places) added
+  pub none_false : (k : ℕ) → k < length added → AllFalse steps (length steps) (get_or added k []) → ⊥
+  pub assumptions : AssumptionsTrue (clause_lists added learnt assumed) steps (length steps)
+
+pub model_of : (steps : List Step) (places : List (Option ℕ)) (added learnt : List (List Lit)) (assumed : List Lit)
+    (values model : List Bool) (n : ℕ) → model ≡ values → length values ≡ n → length places ≤ n → n ≤ length places
+    → IsDone steps places added learnt assumed
     → ((lit : Lit) → MadeTrue steps (length steps) lit → lit.var < n → get_or values lit.var false ≡ lit.positive)
     → IsModel (length places) (added ++ map unit_clause assumed) model
-model_of steps places added learnt assumed values model n e len ge le trail placed within quiet assumptions reflects =
-    let r : Reflects steps values = λ lit t. let w = MadeTrue-within steps places trail lit t in (omega (arith, w), reflects lit t (omega (arith, w))) in
+model_of steps places added learnt assumed values model n e len ge le d reflects =
+    let r : Reflects steps values = λ lit t. let w = MadeTrue-within steps places d.trail lit t in (omega (arith, w), reflects lit t (omega (arith, w))) in
     subst (λ (m : List Bool). IsModel (length places) (added ++ map unit_clause assumed) m) (sym e)
-    (model_from steps places trail placed added learnt assumed values (length places) (omega arith) r within quiet assumptions)
+    (model_from steps places d.trail d.placed added learnt assumed values (length places) (omega arith) r d.within d.none_false d.assumptions)

@@ -11,9 +11,10 @@ use Rattle.sat_core.specs.declared.trail.Step.{Step}
 use Rattle.sat_core.specs.Search.{ClauseLists, clause_lists, HasClause, clause_of, opens_level, Forces, Justifies, Justified, IsTrail, lit_at, step_at}
 use Rattle.sat_core.specs.Search.{no_step, level_marks, trail_weight, weight}
 use Rattle.sat_core.proofs.Trails.{step_at-push, step_at-last, step_at-take, MadeTrue-push, MadeTrue-take, counted_le}
-use Rattle.sat_core.proofs.Measure.{weight-push, weight-return}
+use Rattle.sat_core.proofs.Measure.{weight-return}
 
-Justifies-push : (k : ClauseLists) (steps : List Step) (step : Step) (place : ℕ) (lit : Lit) (reason : Option ClauseRef) → place ≤ length steps
+Justifies-push : (k : ClauseLists) (steps : List Step) (step : Step) (place : ℕ) (lit : Lit) (reason : Option ClauseRef)
+    → place ≤ length steps
     → Justifies k steps place lit reason → Justifies k (steps ++ step ∷ []) place lit reason
 Justifies-push k steps step place lit None h j = λ n w a e. MadeTrue-push steps step place a h (j n w a e)
 Justifies-push k steps step place lit (Some reason) h j = (
@@ -67,7 +68,8 @@ named_grown added learnt assumed clause (Added p) n = (n, refl)
 named_grown added learnt assumed clause (Learnt p) n = (omega (arith, n, length_push learnt clause), get_or_append_left learnt (clause ∷ []) [] p n)
 named_grown added learnt assumed clause (Assumed p) n = (n, refl)
 
-Justifies-grown : (added learnt : List (List Lit)) (assumed clause : List Lit) (steps : List Step) (place : ℕ) (lit : Lit) (reason : Option ClauseRef)
+Justifies-grown : (added learnt : List (List Lit)) (assumed clause : List Lit) (steps : List Step) (place : ℕ)
+    (lit : Lit) (reason : Option ClauseRef)
     → Justifies (clause_lists added learnt assumed) steps place lit reason
     → Justifies (clause_lists added (learnt ++ clause ∷ []) assumed) steps place lit reason
 Justifies-grown added learnt assumed clause steps place lit None j = j
@@ -80,18 +82,6 @@ pub Justified-grown : (added learnt : List (List Lit)) (assumed clause : List Li
     → Justified (clause_lists added (learnt ++ clause ∷ []) assumed) steps
 Justified-grown added learnt assumed clause steps old = λ place h. Justifies-grown added learnt assumed clause steps place (lit_at steps place)
     (step_at steps place).reason (old place h)
-
--- the weight falls with a push
-pub weight_pushed : (steps : List Step) (places new : List (Option ℕ)) (step : Step) → length new ≡ length places
-    → IsTrail (steps ++ step ∷ []) new → trail_weight (steps ++ step ∷ []) new < trail_weight steps places
-weight_pushed steps places new step same trail =
-    let opens : Step → Bool = λ s. opens_level s.reason in
-    let le = counted_le (steps ++ step ∷ []) new trail in
-    let long : length (level_marks steps) < length places = omega (arith, length_push steps step, length-map steps opens) in
-    let w = weight-push (length places) (level_marks steps) (opens step) long in
-    let e : level_marks (steps ++ step ∷ []) ≡ level_marks steps ++ opens step ∷ [] = map_push opens steps step in
-    subst (λ n. weight n (level_marks (steps ++ step ∷ [])) < trail_weight steps places) (sym same)
-    (subst (λ l. weight (length places) l < trail_weight steps places) (sym e) w)
 
 -- and with a return to a step that opened a level
 pub weight_returned : (steps : List Step) (places new : List (Option ℕ)) (keep : ℕ) (step : Step)
@@ -110,12 +100,3 @@ weight_returned steps places new keep step same trail h opened forced =
     ∙ ap (λ (b : Bool). take keep (level_marks steps) ++ b ∷ []) forced in
     subst (λ m. weight m (level_marks (take keep steps ++ step ∷ [])) < trail_weight steps places) (sym same)
     (subst (λ l. weight (length places) l < trail_weight steps places) (sym e) w)
-
-pub weight_falls : (steps grown : List Step) (places new : List (Option ℕ)) (step : Step) → grown ≡ steps ++ step ∷ []
-    → length new ≡ length places → IsTrail grown new → trail_weight grown new < trail_weight steps places
-weight_falls steps grown places new step e same trail =
-    subst (λ l. trail_weight l new < trail_weight steps places) (sym e) (weight_pushed steps places new step same (subst (λ l. IsTrail l new) e trail))
-
-pub Justified-grows : (k : ClauseLists) (steps grown : List Step) (step : Step) → grown ≡ steps ++ step ∷ []
-    → Justified k steps → Justifies k steps (length steps) step.lit step.reason → Justified k grown
-Justified-grows k steps grown step e old here = subst (λ l. Justified k l) (sym e) (Justified-push k steps step old here)

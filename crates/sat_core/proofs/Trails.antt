@@ -1,8 +1,8 @@
 -- The trail: what a push and a backtrack do, and that no literal is both true and false.
-use Rattle.std.proofs.Common.{◌≡◌, ◌≢◌, ◌<◌, ◌≤◌, ℕ, zero, suc, Bool, true, false, not, List, [], ◌∷◌, ◌++◌, length, take, set, replicate, get_or, Option}
-use Rattle.std.proofs.Common.{Some, None, refl, sym, ap, ◌∙◌, inl, inr, arith, zero-add}
+use Rattle.std.proofs.Common.{◌≡◌, ◌≢◌, ◌<◌, ◌≤◌, ℕ, zero, suc, Bool, true, false, not, List, [], ◌∷◌, ◌++◌, length, take, set, get_or, Option}
+use Rattle.std.proofs.Common.{Some, None, refl, sym, ap, ◌∙◌, inl, inr, arith}
 use Rattle.std.proofs.lemmas.List.{get_or_append_left, get_or_push, length_push, get_or-take, get_or-set_same, get_or-set_other, get_or_past, length-set}
-use Rattle.std.proofs.lemmas.List.{get_or_read, length-replicate}
+use Rattle.std.proofs.lemmas.List.{get_or_read}
 use Rattle.std.proofs.lemmas.Bool.{cases_lt, cases_eq}
 use mathlib.Core.Bool.{beq}
 use Rattle.cnf.specs.declared.lit.Lit.{Lit}
@@ -48,10 +48,6 @@ step_at-take steps n p h = get_or-take n steps p no_step h
 pub MadeTrue-push : (steps : List Step) (step : Step) (n : ℕ) (lit : Lit) → n ≤ length steps → MadeTrue steps n lit
     → MadeTrue (steps ++ step ∷ []) n lit
 MadeTrue-push steps step n lit h m = (m.0, m.1, ap (λ (s : Step). s.lit) (step_at-push steps step m.0 (omega (arith, m.1))) ∙ m.2)
-
-pub MadeTrue-last : (steps : List Step) (step : Step)
-    → MadeTrue (steps ++ step ∷ []) (length (steps ++ step ∷ [])) step.lit
-MadeTrue-last steps step = (length steps, omega (arith, length_push steps step), ap (λ (s : Step). s.lit) (step_at-last steps step))
 
 pub MadeTrue-later : (steps : List Step) (n m : ℕ) (lit : Lit) → n ≤ m → MadeTrue steps n lit → MadeTrue steps m lit
 MadeTrue-later steps n m lit h t = (t.0, omega (arith, t.1), t.2)
@@ -203,22 +199,6 @@ value_at steps places lit p s trail at read =
     let same : s ≡ step_at steps p = get_or_read steps p s on.0 read no_step in
     value_sign steps places lit p s.lit.positive lit.positive on.0 on.1 (ap (λ (t : Step). t.lit.positive) (sym same)) refl
 
-unassigned_count-all : (n : ℕ) → unassigned_count (replicate n None) ≡ n
-unassigned_count-all zero = refl
-unassigned_count-all (suc n) = ap suc (unassigned_count-all n)
-
-no_places : (n v p : ℕ) → get_or (replicate n None) v None ≡ Some p → ⊥
-no_places zero v p e = cc
-no_places (suc n) zero p e = cc
-no_places (suc n) (suc v) p e = no_places n v p e
-
-pub IsTrail-empty : (n : ℕ) → IsTrail [] (replicate n None)
-IsTrail-empty n = record {
-  stands = λ var place e. absurd (no_places n var place e);
-  placed = λ place h. absurd (omega arith);
-  counted = zero-add _ ∙ unassigned_count-all n ∙ sym (length-replicate n _);
-}
-
 -- the sign of the step at a variable's place is the sign of each of its literals that was made true
 pub sign_at : (steps : List Step) (places : List (Option ℕ)) (var p : ℕ) (s : Step) → IsTrail steps places
     → get_or places var None ≡ Some p → s ≡ get_or steps p s → (lit : Lit) → MadeTrue steps (length steps) lit
@@ -233,3 +213,8 @@ pub no_sign : (steps : List Step) (places : List (Option ℕ)) (var : ℕ) (b : 
     → get_or places var None ≡ None → (lit : Lit) → MadeTrue steps (length steps) lit → lit.var ≡ var
     → b ≡ lit.positive
 no_sign steps places var b trail none lit t e = absurd (free_from_none steps places trail var none t.0 t.1 (ap (λ (l : Lit). l.var) t.2 ∙ e))
+
+-- where a variable has no place, there are fewer steps than variables
+pub trail_room : (steps : List Step) (places : List (Option ℕ)) (v : ℕ) → IsTrail steps places → v < length places
+    → get_or places v None ≡ None → length steps < length places
+trail_room steps places v trail within none = omega (arith, trail.counted, unassigned_count-fill places v 0 within none)

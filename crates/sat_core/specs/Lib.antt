@@ -1,6 +1,8 @@
 pub mod Decisions
-pub mod Found
+pub mod Engines
 pub mod Learning
 pub mod Numbering
 pub mod Outcomes
 pub mod Search
+pub mod Solving
+pub mod Watching

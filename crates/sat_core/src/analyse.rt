@@ -5,7 +5,7 @@ ghost use Rattle.std.specs.Prelude.{◌≡◌, ◌<◌, ◌≤◌, ◌+◌, ℕ,
 ghost use Rattle.cnf.specs.Clauses.{opposite};
 ghost use Rattle.sat_core.specs.Search.{IsTrail, Justified, ClauseLists, clause_lists, lists_of, IsDerivation};
 ghost use Rattle.sat_core.specs.Search.{HasClause, clause_of, AllFalse, MadeTrue, lit_at, step_at, opens_level};
-ghost use Rattle.sat_core.specs.Found.{IsFalsified};
+ghost use Rattle.sat_core.specs.Learning.{IsFalseClause};
 ghost use Rattle.sat_core.specs.Learning.{OthersFalse, SameReference, Asserts, IsLearntFrom};
 
 use crate::chain::{Derivation, Resolvent, has};
@@ -31,7 +31,7 @@ pub struct LearntClause {
 }
 
 /// One more than the place that makes a literal false.
-fn after(trail: &Trail, lit: Lit) -> usize
+pub fn after(trail: &Trail, lit: Lit) -> usize
     requires trail { IsTrail trail.now.steps.items trail.now.places.items }
     requires false_ { MadeTrue trail.now.steps.items (length trail.now.steps.items) (opposite lit) }
     ensures { (p : ℕ) × (result ≡ p + 1) × (p < length trail.now.steps.items) ×
@@ -117,9 +117,9 @@ pub fn analyse(
 ) -> Result<LearntClause, NoMemory>
     requires trail { IsTrail trail.now.steps.items trail.now.places.items }
     requires justified { Justified (lists_of database) trail.now.steps.items }
-    requires falsified { IsFalsified (lists_of database) trail.now.steps.items reason }
-    ensures { IfOk result (λ learnt_clause. IsLearntFrom (clause_lists database.entry.added.now
-        database.entry.learnt.now []) trail.now.steps.items learnt_clause) }
+    requires falsified { IsFalseClause (lists_of database) trail.now.steps.items reason }
+    ensures { IfOk result (λ learnt_clause. IsLearntFrom
+        (clause_lists database.entry.added.now database.entry.learnt.now []) trail.now.steps.items learnt_clause) }
 {
     let mut resolvent = Resolvent::new(alloc, database, reason)?;
     let mut at = trail.len();

@@ -88,7 +88,7 @@ pub fn has(lits: &[Lit], lit: Lit) -> bool
 }
 
 /// The literals of a list but for one.
-fn without(alloc: Global, lits: &[Lit], lit: Lit) -> Result<Vec<Lit>, NoMemory>
+pub fn without(alloc: Global, lits: &[Lit], lit: Lit) -> Result<Vec<Lit>, NoMemory>
     ensures { IfOk result (λ rest. IsWithout lits.now lit rest.items) }
 {
     let mut rest = Vec::new(alloc);

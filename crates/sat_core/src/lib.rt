@@ -7,18 +7,27 @@
 
 mod analyse;
 mod chain;
-mod choose;
 mod clause_ref;
+mod decide;
+mod distinct;
+mod engine;
+mod learn;
+mod learnt;
 mod log;
 mod opposites;
+mod order;
 mod outcome;
-mod propagate;
-mod scan;
+#[cfg(test)]
+mod propagation_tests;
+mod propagator;
+mod room;
 mod search;
 mod solver;
 #[cfg(test)]
 mod tests;
 mod trail;
+mod units;
 
 pub use outcome::Outcome;
+pub use propagator::Propagation;
 pub use solver::Solver;

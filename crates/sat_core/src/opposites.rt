@@ -1,4 +1,4 @@
-//! Opposite assumptions: `opposites` finds two, and `units_log` is the log that resolves them.
+//! Opposite assumptions: `units_log` is the log that resolves their unit clauses. It only reads.
 
 ghost use Rattle.std.specs.Prelude.{◌≡◌, ◌<◌, ◌+◌, ℕ, List, [], ◌∷◌, length, IfOk, MatchOption, Contains};
 ghost use Rattle.std.specs.Prelude.{slice_index_or};
@@ -15,25 +15,6 @@ use clause_log::ChainLog;
 use cnf::{Clause, Lit};
 use port_types::NoMemory;
 use std::alloc::Global;
-
-/// The place of a literal in a list.
-fn index_of(lits: &[Lit], lit: Lit) -> Option<usize>
-    ensures { MatchOption result (Contains lits.now lit → ⊥) (λ place. StandsAt lits.now place lit) }
-{
-    lits.iter().position(|other| other.same(lit))
-}
-
-/// Two opposite literals of a list, by their places.
-pub fn opposites(lits: &[Lit]) -> Option<(usize, usize)>
-    ensures { MatchOption result (HasOpposites lits.now → ⊥) (λ places. AreOpposite lits.now places.0 places.1) }
-{
-    for (place, lit) in lits.iter().enumerate() {
-        if let Some(other) = index_of(lits, lit.negated()) {
-            return Some((place, other));
-        }
-    }
-    None
-}
 
 /// The log that resolves the unit clauses of two opposite assumptions.
 pub fn units_log(

@@ -1,60 +1,28 @@
-//! The search: `search` propagates, learns and decides until it has a model or the empty clause. It may touch the
-//! trail, the learnt clauses and the phases.
+//! The search: `Engine::search` makes literals true, learns from conflicts and goes back, until it has a
+//! model or the empty clause.
+//!
+//! It may touch all of the engine, and takes memory for learnt clauses and the model.
 
-ghost use Rattle.std.specs.Prelude.{◌≡◌, ◌<◌, ◌≤◌, ◌∷◌, ◌++◌, ℕ, [], true, false, length, map, IfOk, OnOk, OnErr};
-ghost use Rattle.std.specs.Prelude.{MatchOption};
+ghost use Rattle.std.specs.Prelude.{◌<◌, ◌++◌, [], length, map, IfOk, Contains};
 ghost use Rattle.cnf.specs.Clauses.{IsModel};
-ghost use Rattle.sat_core.specs.Search.{IsTrail, AllWithin, Justified, clause_lists, lists_of, unit_clause};
-ghost use Rattle.sat_core.specs.Search.{IsDerivation, trail_weight, AssumptionsTrue};
-ghost use Rattle.sat_core.specs.Found.{IsFalsified, NothingFalsified};
-ghost use Rattle.sat_core.specs.Decisions.{IsSearchState, AreDerivations, IsAnswer, AllAssigned};
+ghost use Rattle.sat_core.specs.declared.decide.Choice.TheVariants.{Refuted, Done};
+ghost use Rattle.sat_core.specs.Search.{lists_of, clause_lists, unit_clause, IsDerivation, trail_weight};
+ghost use Rattle.sat_core.specs.Search.{AssumptionsTrue, IsTrail, AllWithin};
+ghost use Rattle.sat_core.specs.Decisions.{IsAnswer, AreTrueTo, AllAssigned, NoneFalse};
+ghost use Rattle.sat_core.specs.Watching.{NoConflict};
+ghost use Rattle.sat_core.specs.Engines.{IsEngine, IsSolver, IsEngineAtRest, IsSearching, Chooses, TakesStep, IsFound, IsLonger};
+ghost use Rattle.sat_core.specs.Engines.{found_weight, step_weight};
 
-use crate::analyse::{LearntClause, analyse, refute};
+use crate::analyse::refute;
 use crate::chain::Derivation;
-use crate::choose::{Choice, choose};
 use crate::clause_ref::{ClauseRef, Database};
-use crate::propagate::propagate;
+use crate::decide::{Choice, Cursors};
+use crate::engine::Engine;
+use crate::propagator::Propagation;
 use crate::trail::{Step, Trail};
 use cnf::{Clause, Lit, Model01};
-use port_types::NoMemory;
+use port_types::{NoMemory, OneRun, Steps};
 use std::alloc::Global;
-
-/// Clauses that were learnt, each with its derivation.
-#[derive(Debug, Drop)]
-pub struct LearntClauses {
-    pub clauses: Vec<Clause>,
-    pub derivations: Vec<Derivation>,
-}
-
-impl LearntClauses {
-    pub fn new(alloc: Global) -> LearntClauses
-        ensures clauses { result.clauses.items ≡ [] }
-        ensures derivations { result.derivations.items ≡ [] }
-    {
-        LearntClauses {
-            clauses: Vec::new(alloc),
-            derivations: Vec::new(alloc),
-        }
-    }
-
-    /// Keeps a learnt clause.
-    pub fn keep(&mut self, lits: &[Lit], derivation: Derivation) -> Result<(), NoMemory>
-        ensures clauses { OnOk result (self.new.clauses.items ≡ self.old.clauses.items ++ lits.now ∷ []) }
-        ensures derivations { OnOk result (self.new.derivations.items ≡ self.old.derivations.items ++ derivation ∷ []) }
-        ensures err_clauses { OnErr result (self.new.clauses.items ≡ self.old.clauses.items) }
-        ensures err_derivations { OnErr result (self.new.derivations.items ≡ self.old.derivations.items) }
-    {
-        let clause = Clause::from_slice(*self.clauses.allocator(), lits)?;
-        self.derivations.push(derivation)?;
-        match self.clauses.push(clause) {
-            Ok(()) => Ok(()),
-            Err(_) => {
-                let _ = self.derivations.pop();
-                Err(NoMemory)
-            }
-        }
-    }
-}
 
 /// What a search answers: a model, or the derivation of the empty clause.
 #[derive(Debug, Drop)]
@@ -63,11 +31,18 @@ pub enum Answer {
     Unsat(Derivation),
 }
 
+/// What a search goes on with: a literal to make true, or its answer.
+#[derive(Debug, Drop)]
+pub enum Found {
+    Next(Step),
+    Answered(Answer),
+}
+
 /// The values of the variables.
 fn model(alloc: Global, database: Database<'_>, trail: &Trail) -> Result<Model01, NoMemory>
     requires trail { IsTrail trail.now.steps.items trail.now.places.items }
     requires placed { AllAssigned trail.now.places.items }
-    requires quiet { NothingFalsified (lists_of database) trail.now.steps.items }
+    requires true_ { NoneFalse database.added.now trail.now.steps.items }
     requires assumed { AssumptionsTrue (lists_of database) trail.now.steps.items (length trail.now.steps.items) }
     requires within { AllWithin (length trail.now.places.items) database.added.now }
     requires assumed_within { AllWithin (length trail.now.places.items) (map unit_clause database.assumed.now) }
@@ -81,128 +56,196 @@ fn model(alloc: Global, database: Database<'_>, trail: &Trail) -> Result<Model01
     Ok(Model01::from_vec(values))
 }
 
-/// Learns from a clause whose literals are all false, and turns the trail.
-///
-/// Answers the derivation of the empty clause where that is what was learnt.
-fn learn<'a>(
-    alloc: Global,
-    added: &'a [Clause],
-    learnt: &mut LearntClauses,
-    assumed: &'a [Lit],
-    trail: &mut Trail,
-    phases: &mut [bool],
-    reason: ClauseRef,
-) -> Result<Option<Derivation>, NoMemory>
-    requires state { IsSearchState (length phases.old) added.now learnt.old.clauses.items assumed.now
-        trail.old.steps.items trail.old.places.items }
-    requires derived { AreDerivations added.now learnt.old.clauses.items learnt.old.derivations.items }
-    requires falsified { IsFalsified (clause_lists added.now learnt.old.clauses.items assumed.now)
-        trail.old.steps.items reason }
-    ensures learnt { AllWithin (length phases.old) learnt.new.clauses.items }
-    ensures derived { AreDerivations added.now learnt.new.clauses.items learnt.new.derivations.items }
-    ensures done { IfOk result (λ found. MatchOption found
-        (IsSearchState (length phases.old) added.now learnt.new.clauses.items assumed.now trail.new.steps.items
-        trail.new.places.items
-        × (trail_weight trail.new.steps.items trail.new.places.items < trail_weight trail.old.steps.items
-        trail.old.places.items))
-        (λ derivation. IsDerivation (clause_lists added.now learnt.new.clauses.items assumed.now) derivation.first
-        derivation.rest.items [])) }
-{
-    let database = Database {
-        added,
-        learnt: learnt.clauses.as_slice(),
-        assumed,
-    };
-    let LearntClause {
-        lits,
-        derivation,
-        backjump,
-    } = analyse(alloc, database, trail, reason)?;
-    match backjump {
-        None => Ok(Some(derivation)),
-        Some(backjump) => {
-            let place = learnt.clauses.len();
-            learnt.keep(lits.as_slice(), derivation)?;
-            trail.backtrack(backjump.keep);
-            let step = Step {
-                lit: backjump.lit,
-                reason: Some(ClauseRef::Learnt(place)),
-            };
-            trail.push(step)?;
-            phases[backjump.lit.var] = backjump.lit.positive;
-            Ok(None)
-        }
-    }
-}
-
-/// Makes the next assumption or decision true, or answers.
-fn advance(
-    alloc: Global,
-    database: Database<'_>,
-    trail: &mut Trail,
-    phases: &mut [bool],
-) -> Result<Option<Answer>, NoMemory>
-    requires state { IsSearchState (length phases.old) database.added.now database.learnt.now database.assumed.now
-        trail.old.steps.items trail.old.places.items }
-    requires quiet { NothingFalsified (lists_of database) trail.old.steps.items }
-    ensures done { IfOk result (λ found. MatchOption found
-        (IsSearchState (length phases.old) database.entry.added.now database.entry.learnt.now
-        database.entry.assumed.now trail.new.steps.items trail.new.places.items
-        × (trail_weight trail.new.steps.items trail.new.places.items < trail_weight trail.old.steps.items
-        trail.old.places.items))
-        (IsAnswer (length phases.old) database.entry.added.now database.entry.learnt.now database.entry.assumed.now)) }
-{
-    match choose(database, trail, phases) {
-        Choice::Refuted(place) => {
-            let derivation = refute(alloc, database, trail, ClauseRef::Assumed(place))?;
-            Ok(Some(Answer::Unsat(derivation)))
-        }
-        Choice::Next(step) => {
-            trail.push(step)?;
-            phases[step.lit.var] = step.lit.positive;
-            Ok(None)
-        }
-        Choice::Done => Ok(Some(Answer::Sat(model(alloc, database, trail)?))),
-    }
-}
-
-/// Searches for a model of the added clauses and the assumptions.
-pub fn search<'a>(
-    alloc: Global,
-    added: &'a [Clause],
-    learnt: &mut LearntClauses,
-    phases: &mut [bool],
-    assumed: &'a [Lit],
-) -> Result<Answer, NoMemory>
-    requires added { AllWithin (length phases.old) added.now }
-    requires learnt { AllWithin (length phases.old) learnt.old.clauses.items }
-    requires assumed { AllWithin (length phases.old) (map unit_clause assumed.now) }
-    requires derived { AreDerivations added.now learnt.old.clauses.items learnt.old.derivations.items }
-    ensures learnt { AllWithin (length phases.old) learnt.new.clauses.items }
-    ensures derived { AreDerivations added.now learnt.new.clauses.items learnt.new.derivations.items }
-    ensures answers { IfOk result (IsAnswer (length phases.old) added.now learnt.new.clauses.items assumed.now) }
-{
-    let mut trail = Trail::new(alloc, phases.len())?;
-    loop {
+impl Engine {
+    /// What comes next, of the clauses that a search may name.
+    fn choose_of<'a>(
+        &'a self,
+        added: &'a [Clause],
+        assumed: &'a [Lit],
+        cursors: &mut Cursors,
+    ) -> Choice
+        requires search { IsSearching added.now assumed.now self.now }
+        requires quiet { NoConflict self.now.propagator.links self.now.propagator.trail.steps.items }
+        requires seen { AreTrueTo self.now.propagator.trail.steps.items assumed.now cursors.old.assumed }
+        ensures choice { Chooses (clause_lists added.now self.now.learnt.clauses.items assumed.now) self.now result }
+        ensures seen { AreTrueTo self.now.propagator.trail.steps.items assumed.now cursors.new.assumed }
+    {
         let database = Database {
             added,
-            learnt: learnt.clauses.as_slice(),
+            learnt: self.learnt.clauses.as_slice(),
             assumed,
         };
-        let found = propagate(database, &mut trail, phases)?;
-        match found {
-            Some(reason) => {
-                if let Some(derivation) = learn(
-                    alloc, added, learnt, assumed, &mut trail, phases, reason,
-                )? {
-                    return Ok(Answer::Unsat(derivation));
-                }
+        self.choose(database, cursors)
+    }
+
+    /// The derivation of the empty clause where an assumption is false.
+    fn refuted<'a>(
+        &'a self,
+        alloc: Global,
+        added: &'a [Clause],
+        assumed: &'a [Lit],
+        index: usize,
+    ) -> Result<Derivation, NoMemory>
+        requires search { IsSearching added.now assumed.now self.now }
+        requires false_ { Chooses (clause_lists added.now self.now.learnt.clauses.items assumed.now) self.now
+            (Refuted index) }
+        ensures { IfOk result (λ derivation. IsDerivation
+            (clause_lists added.now self.now.learnt.clauses.items assumed.now)
+            derivation.first derivation.rest.items []) }
+    {
+        let database = Database {
+            added,
+            learnt: self.learnt.clauses.as_slice(),
+            assumed,
+        };
+        refute(
+            alloc,
+            database,
+            &self.propagator.trail,
+            ClauseRef::Assumed(index),
+        )
+    }
+
+    /// The values of the variables, where each clause and each assumption is true.
+    fn satisfied<'a>(
+        &'a self,
+        alloc: Global,
+        added: &'a [Clause],
+        assumed: &'a [Lit],
+    ) -> Result<Model01, NoMemory>
+        requires search { IsSearching added.now assumed.now self.now }
+        requires quiet { NoConflict self.now.propagator.links self.now.propagator.trail.steps.items }
+        requires done { Chooses (clause_lists added.now self.now.learnt.clauses.items assumed.now) self.now Done }
+        requires none_empty { Contains added.now [] → ⊥ }
+        ensures { IfOk result (IsModel self.now.propagator.links.vars (added.now ++ map unit_clause assumed.now)) }
+    {
+        let database = Database {
+            added,
+            learnt: self.learnt.clauses.as_slice(),
+            assumed,
+        };
+        model(alloc, database, &self.propagator.trail)
+    }
+
+    /// The next literal where no clause is in conflict, or the answer.
+    fn advance<'a>(
+        &mut self,
+        alloc: Global,
+        added: &'a [Clause],
+        assumed: &'a [Lit],
+        cursors: &mut Cursors,
+    ) -> Result<Found, NoMemory>
+        requires search { IsSearching added.now assumed.now self.old }
+        requires quiet { NoConflict self.old.propagator.links self.old.propagator.trail.steps.items }
+        requires seen { AreTrueTo self.old.propagator.trail.steps.items assumed.now cursors.old.assumed }
+        requires none_empty { Contains added.now [] → ⊥ }
+        ensures engine { IsEngine added.now self.new }
+        ensures longer { IsLonger self.old self.new }
+        ensures found { IfOk result (IsFound added.now assumed.now self.new) }
+        ensures seen { AreTrueTo self.new.propagator.trail.steps.items assumed.now cursors.new.assumed }
+        ensures weight { IfOk result (λ found. found_weight self.new found
+            < trail_weight self.old.propagator.trail.steps.items self.old.propagator.trail.places.items) }
+    {
+        match self.choose_of(added, assumed, cursors) {
+            Choice::Next(step) => Ok(Found::Next(step)),
+            Choice::Falsified(reason) => {
+                cursors.back();
+                self.learn(alloc, added, assumed, reason)
             }
-            None => {
-                if let Some(answer) = advance(alloc, database, &mut trail, phases)? {
-                    return Ok(answer);
-                }
+            Choice::Refuted(index) => {
+                let derivation = self.refuted(alloc, added, assumed, index)?;
+                Ok(Found::Answered(Answer::Unsat(derivation)))
             }
+            Choice::Done => {
+                let model = self.satisfied(alloc, added, assumed)?;
+                Ok(Found::Answered(Answer::Sat(model)))
+            }
+        }
+    }
+
+    /// Makes a literal true, and finds what comes next.
+    fn follow<'a>(
+        &mut self,
+        alloc: Global,
+        added: &'a [Clause],
+        assumed: &'a [Lit],
+        step: Step,
+        cursors: &mut Cursors,
+        steps: &mut Steps<OneRun>,
+    ) -> Result<Found, NoMemory>
+        requires goes_on { TakesStep added.now assumed.now self.old step }
+        requires seen { AreTrueTo self.old.propagator.trail.steps.items assumed.now cursors.old.assumed }
+        requires none_empty { Contains added.now [] → ⊥ }
+        ensures engine { IsEngine added.now self.new }
+        ensures longer { IsLonger self.old self.new }
+        ensures found { IfOk result (IsFound added.now assumed.now self.new) }
+        ensures seen { AreTrueTo self.new.propagator.trail.steps.items assumed.now cursors.new.assumed }
+        ensures weight { IfOk result (λ found. found_weight self.new found < step_weight self.old step) }
+    {
+        self.phases[step.lit.var] = step.lit.positive;
+        match self.propagator.propagate(step, steps) {
+            Propagation::Quiet => self.advance(alloc, added, assumed, cursors),
+            Propagation::Conflict(clause) => {
+                cursors.back();
+                let reason = self.propagator.references[clause];
+                self.learn(alloc, added, assumed, reason)
+            }
+        }
+    }
+
+    /// Searches for a model of the added clauses and the assumptions.
+    pub fn search<'a>(
+        &mut self,
+        alloc: Global,
+        added: &'a [Clause],
+        assumed: &'a [Lit],
+    ) -> Result<Answer, NoMemory>
+        requires engine { IsEngine added.now self.old }
+        requires rest { IsEngineAtRest self.old }
+        requires assumed { AllWithin self.old.propagator.links.vars (map unit_clause assumed.now) }
+        requires none_empty { Contains added.now [] → ⊥ }
+        ensures engine { IsEngine added.now self.new }
+        ensures longer { IsLonger self.old self.new }
+        ensures answers { IfOk result (IsAnswer self.new.propagator.links.vars added.now self.new.learnt.clauses.items
+            assumed.now) }
+    {
+        self.propagator.links.lists_are_exact();
+        let mut steps = Steps::start();
+        let mut cursors = Cursors::start();
+        let mut found = self.advance(alloc, added, assumed, &mut cursors)?;
+        loop {
+            match found {
+                Found::Next(step) => {
+                    found = self.follow(alloc, added, assumed, step, &mut cursors, &mut steps)?;
+                }
+                Found::Answered(answer) => return Ok(answer),
+            }
+        }
+    }
+
+    /// A model of the added clauses and the assumptions, or the derivation of the empty clause, which is an added one
+    /// where `empty` names it.
+    pub fn answer<'a>(
+        &mut self,
+        alloc: Global,
+        added: &'a [Clause],
+        empty: Option<usize>,
+        assumed: &'a [Lit],
+    ) -> Result<Answer, NoMemory>
+        requires solver { IsSolver added.now empty self.old }
+        requires rest { IsEngineAtRest self.old }
+        requires assumed { AllWithin self.old.propagator.links.vars (map unit_clause assumed.now) }
+        ensures solver { IsSolver added.now empty self.new }
+        ensures longer { IsLonger self.old self.new }
+        ensures answers { IfOk result (IsAnswer self.new.propagator.links.vars added.now self.new.learnt.clauses.items
+            assumed.now) }
+    {
+        match empty {
+            Some(index) => Ok(Answer::Unsat(Derivation {
+                first: ClauseRef::Added(index),
+                rest: Vec::new(alloc),
+            })),
+            None => self.search(alloc, added, assumed),
         }
     }
 }

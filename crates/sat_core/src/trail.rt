@@ -1,11 +1,14 @@
 //! The trail: literals in the order in which they were made true, with the place of each variable.
+//! `push` and `backtrack` change it; neither takes memory.
 
-ghost use Rattle.std.specs.Prelude.{◌≡◌, ◌<◌, ◌≤◌, ◌+◌, ◌∷◌, ◌++◌, ◌↔◌, ℕ, [], true, false, length, take, IsTrue};
-ghost use Rattle.std.specs.Prelude.{IfOk, IfSome, OnOk, OnErr, MatchOption, slice_index_or, vec_len};
+ghost use Rattle.std.specs.Prelude.{◌≡◌, ◌<◌, ◌≤◌, ◌+◌, ◌∷◌, ◌++◌, ◌↔◌, ℕ, [], true, false, length, take, IsTrue, IfOk};
+ghost use Rattle.std.specs.Prelude.{IfSome, OnOk, OnErr, MatchOption, slice_index_or, vec_len, vec_capacity};
 ghost use Rattle.cnf.specs.declared.lit.Lit.{Lit};
+ghost use Rattle.cnf.specs.Clauses.{opposite};
 ghost use Rattle.sat_core.specs.Search.{step_at, lit_at, MadeTrue, IsUnassigned, IsTrail, opens_level, ValueIs};
 
 use crate::clause_ref::ClauseRef;
+use crate::room::push_within;
 use cnf::Lit;
 use port_types::NoMemory;
 use std::alloc::Global;
@@ -17,11 +20,14 @@ pub struct Step {
     pub reason: Option<ClauseRef>,
 }
 
-/// The literals made true, in order, and the place of each variable among them.
+/// Literals with distinct variables, in order, and the place of each variable among them.
+///
+/// There is always room for a step of each variable.
 #[derive(Debug, Drop)]
 pub struct Trail {
     pub steps: Vec<Step>,
     pub places: Vec<Option<usize>>,
+    ghost room: { length places.items ≤ vec_capacity steps },
 }
 
 /// Whether a step opens a level: it is a decision or an assumption.
@@ -37,20 +43,37 @@ pub fn opens(step: Step) -> bool
 }
 
 impl Trail {
-    /// The empty trail over so many variables.
-    pub fn new(alloc: Global, vars: usize) -> Result<Trail, NoMemory>
-        ensures trail { IfOk result (λ trail. IsTrail trail.steps.items trail.places.items) }
-        ensures steps { IfOk result (λ trail. trail.steps.items ≡ []) }
-        ensures vars { IfOk result (λ trail. length trail.places.items ≡ vars) }
+    /// No steps, over no variables.
+    pub fn new(alloc: Global) -> Trail
+        ensures steps { result.steps.items ≡ [] }
+        ensures places { result.places.items ≡ [] }
     {
-        let mut places = Vec::new(alloc);
-        for _ in 0..vars {
-            places.push(None)?;
-        }
-        Ok(Trail {
+        Trail {
             steps: Vec::new(alloc),
-            places,
-        })
+            places: Vec::new(alloc),
+        }
+    }
+
+    /// Makes room for one more variable.
+    pub fn reserve_var(&mut self) -> Result<(), NoMemory>
+        ensures steps { self.new.steps.items ≡ self.old.steps.items }
+        ensures places { self.new.places.items ≡ self.old.places.items }
+        ensures steps_room { OnOk result (length self.new.places.items < vec_capacity self.new.steps) }
+        ensures places_room { OnOk result (length self.new.places.items < vec_capacity self.new.places) }
+    {
+        self.places.reserve(1)?;
+        self.steps.reserve(self.places.len() + 1)?;
+        Ok(())
+    }
+
+    /// One more variable, without a place, where there is room for it.
+    pub fn add_var(&mut self)
+        requires steps_room { length self.old.places.items < vec_capacity self.old.steps }
+        requires places_room { length self.old.places.items < vec_capacity self.old.places }
+        ensures steps { self.new.steps.items ≡ self.old.steps.items }
+        ensures places { self.new.places.items ≡ self.old.places.items ++ None ∷ [] }
+    {
+        push_within(&mut self.places, None);
     }
 
     /// The number of literals made true.
@@ -88,6 +111,15 @@ impl Trail {
         }
     }
 
+    /// Whether a literal is false.
+    pub fn is_false(&self, lit: Lit) -> bool
+        requires trail { IsTrail self.now.steps.items self.now.places.items }
+        requires var { lit.var < length self.now.places.items }
+        ensures { IsTrue result ↔ MadeTrue self.now.steps.items (length self.now.steps.items) (opposite lit) }
+    {
+        self.value(lit) == Some(false)
+    }
+
     /// The number of variables.
     pub fn vars(&self) -> usize
         ensures { result ≡ length self.now.places.items }
@@ -108,20 +140,18 @@ impl Trail {
         }
     }
 
-    /// Makes a literal true whose variable has no value.
-    pub fn push(&mut self, step: Step) -> Result<(), NoMemory>
+    /// Puts a step at the end whose variable has no place.
+    pub fn push(&mut self, step: Step)
         requires trail { IsTrail self.old.steps.items self.old.places.items }
         requires var { step.lit.var < length self.old.places.items }
         requires free { slice_index_or self.old.places.items (step.lit.var) None ≡ None }
         ensures trail { IsTrail self.new.steps.items self.new.places.items }
         ensures vars { length self.new.places.items ≡ length self.old.places.items }
-        ensures ok { OnOk result (self.new.steps.items ≡ self.old.steps.items ++ step ∷ []) }
-        ensures err { OnErr result (self.new.steps.items ≡ self.old.steps.items) }
+        ensures steps { self.new.steps.items ≡ self.old.steps.items ++ step ∷ [] }
     {
         let place = self.steps.len();
-        self.steps.push(step)?;
+        push_within(&mut self.steps, step);
         self.places[step.lit.var] = Some(place);
-        Ok(())
     }
 
     /// Takes back all but the first `keep` steps.

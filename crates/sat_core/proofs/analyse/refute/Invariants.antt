@@ -5,7 +5,8 @@ use Rattle.sat_core.proofs.analyse.refute.Given as goal
 abbrev pub invariant-loop-at : goal.invariant-loop-at
 invariant-loop-at l = record {
   within : l.at ≤ length l.trail.steps.items;
-  derived : IsDerivation (lists_of l.database) l.resolvent.derivation.first l.resolvent.derivation.rest.items l.resolvent.lits.items;
+  derived : IsDerivation (lists_of
+      l.database) l.resolvent.derivation.first l.resolvent.derivation.rest.items l.resolvent.lits.items;
   all : AllFalse l.trail.steps.items l.at l.resolvent.lits.items;
 }
 

@@ -27,7 +27,7 @@ returns-in_ok-resolve-clause-derived c = λ k agrees d.
     let has1 = subst (λ (l : List Lit). Contains l c.negated.result) c.as_slice.ensures.value (c.if-has.ensures.0 refl) in
     let has = subst (λ (l : Lit). Contains left l) e has1 in
     derived_step k (lists_of c.args.database) steps c.args.at step c.in-Some.reason _ _ _ _ left c.resolve.new.self.lits.items c.step-step.ensures
-    c.in-Some.is (agrees has) c.in_ok-resolve.ensures.lits c.in_ok-resolve.ensures.first c.in_ok-resolve.ensures.rest d
+    c.in-Some.is (agrees has) c.in_ok-resolve.ensures.lits (c.in_ok-resolve.ensures.first, c.in_ok-resolve.ensures.rest) d
 
 pub returns-else-has-clause-all : goal.returns-else-has-clause-all
 returns-else-has-clause-all c =

@@ -3,7 +3,7 @@ use Rattle.std.proofs.lemmas.List.{get_or_default, get_or_read, length-take, len
 use Rattle.sat_core.specs.declared.chain.Derivation.{Derivation}
 use Rattle.sat_core.specs.Search.{IsDerivation, clause_lists}
 use Rattle.sat_core.specs.Numbering.{AllHaveNumbers}
-use Rattle.sat_core.proofs.Logs.{derived_numbers, chain_next, skip_next}
+use Rattle.sat_core.proofs.Logs.{IsChainOf, derived_numbers, chain_next, skip_next}
 use Rattle.sat_core.proofs.log.chains.Goals as goal
 use Rattle.sat_core.proofs.log.chains.Goals.{then-needed-place+in_ok-chain+in_ok-push, else-needed-place}
 
@@ -41,10 +41,16 @@ loop-place-preserved c =
           let clause = e.clause ∙ w.as_slice-clause.ensures ∙ get_or_read learnt place w.index-learnt-place.result h w.index-learnt-place.is [] in
           let longer = w.log-is ∙ w.in_ok-push.ensures.ok in
           record {
-            numbered = chain_next added learnt assumed needed place _ numbers w.as_slice.result.now c.push-in-loop-place.new.self.items log
-                c.if-needed-place.log w.in_ok-chain.field-0 c.args.derivations.now d c.requires.derived c.requires.needed h w.index-derivations-place.is
-                (get_or_default needed place true false h2 ∙ w.if-needed-place.true) clause e.first e.rest w.as_slice.ensures.value
-                (omega (arith, c.len.ensures)) c.in_ok-push-2.ensures.items longer inv.numbered;
+            numbered = chain_next added learnt assumed needed place _ numbers c.push-in-loop-place.new.self.items log c.if-needed-place.log
+                w.in_ok-chain.field-0 c.args.derivations.now d (c.requires.derived, c.requires.needed)
+                (record {
+                  within = h;
+                  is = w.index-derivations-place.is;
+                  need = get_or_default needed place true false h2 ∙ w.if-needed-place.true;
+                })
+                (subst (λ (l : List ℕ). IsChainOf (length added) l (get_or learnt place []) d.first d.rest.items w.in_ok-chain.field-0)
+                w.as_slice.ensures.value (record { clause_is = clause; first_is = e.first; rest_is = e.rest }))
+                (omega (arith, c.len.ensures)) (record { numbers_are = c.in_ok-push-2.ensures.items; chains_are = longer }) inv.numbered;
             short = omega (arith, ap length longer, length_push log w.in_ok-chain.field-0, inv.short);
           }
       | else-needed-place w ↦

@@ -1,7 +1,7 @@
-use Rattle.std.proofs.Common.{◌≡◌, ◌<◌, ◌+◌, ◌^◌, Bool, List, [], length, take, arith, ap, sym, subst, ◌∙◌}
+use Rattle.std.proofs.Common.{◌≡◌, ◌<◌, ◌+◌, ◌^◌, ℕ, Bool, List, [], length, take, arith, ap, sym, subst, ◌∙◌}
 use Rattle.std.proofs.lemmas.List.{length-take}
 use Rattle.sat_core.specs.Numbering.{AllNeeded}
-use Rattle.sat_core.proofs.Logs.{derived_numbers, derived_below, log_done}
+use Rattle.sat_core.proofs.Logs.{IsChainOf, derived_numbers, derived_below, log_done}
 use Rattle.sat_core.proofs.log.render.Goals as goal
 
 pub needed-requires-clause-before : goal.needed-requires-clause-before
@@ -32,6 +32,7 @@ returns c =
     let same : c.as_slice-2.result.now ≡ c.in_ok-log.field-0.numbers.items = cc in
     let need = subst (λ (l : List Bool). AllNeeded l last.first last.rest.items) (sym c.as_slice.ensures.value) c.in_ok-needed.ensures.last in
     let e = c.in_ok-end.ensures in
-    log_done c.args.added.now c.args.learnt.now c.args.assumed.now c.as_slice.result.now c.in_ok-log.field-0.numbers.items c.as_slice-2.result.now
-    c.in_ok-log.field-0.log c.push.new.self c.in_ok-end.end last.first last.rest.items c.in_ok-log.ensures need c.requires.last e.clause e.first
-    e.rest same c.in_ok-push.ensures.ok
+    log_done c.args.added.now c.args.learnt.now c.args.assumed.now c.as_slice.result.now c.in_ok-log.field-0.numbers.items
+    c.in_ok-log.field-0.log c.push.new.self c.in_ok-end.end last.first last.rest.items c.in_ok-log.ensures need c.requires.last
+    (subst (λ (l : List ℕ). IsChainOf (length c.args.added.now) l [] last.first last.rest.items c.in_ok-end.end) same
+    (record { clause_is = e.clause; first_is = e.first; rest_is = e.rest })) c.in_ok-push.ensures.ok

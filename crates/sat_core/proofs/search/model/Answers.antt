@@ -17,5 +17,12 @@ returns c =
     let f = c.args.database in
     model_of c.args.trail.now.steps.items c.args.trail.now.places.items f.added.now f.learnt.now f.assumed.now c.loop-var.values.items
     c.from_vec.result c.loop-var.var c.from_vec.ensures c.loop-var.invariant.count (omega (arith, c.vars-var-end.ensures))
-    (omega (arith, c.vars-var-end.ensures, c.loop-var.auto.var-end)) c.requires.trail c.requires.placed c.requires.within c.requires.quiet
-    c.requires.assumed c.loop-var.invariant.reflects
+    (omega (arith, c.vars-var-end.ensures, c.loop-var.auto.var-end))
+    (record {
+      trail = c.requires.trail;
+      placed = c.requires.placed;
+      within = c.requires.within;
+      none_false = c.requires.true_;
+      assumptions = c.requires.assumed;
+    })
+    c.loop-var.invariant.reflects

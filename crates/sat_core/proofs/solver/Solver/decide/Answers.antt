@@ -1,49 +1,37 @@
-use Rattle.std.proofs.Common.{◌≡◌, length, map, arith, ap, ◌∙◌}
+use Rattle.std.proofs.Common.{◌∙◌, map, ap, subst}
+use Rattle.clause_links.specs.WatchLists.{WatchLists}
 use Rattle.sat_core.specs.Search.{unit_clause}
-use Rattle.sat_core.proofs.Searching.{within_same, within_moved, within_units, kept_length, solver_moved}
+use Rattle.sat_core.specs.Solving.{Solving, FollowFrom}
+use Rattle.sat_core.proofs.Searching.{within_same, within_units}
+use Rattle.sat_core.proofs.SolverLaws.{solver_with, follow_answer}
 use Rattle.sat_core.proofs.solver.Solver.decide.Goals as goal
-use Rattle.sat_core.proofs.solver.Solver.decide.Goals.{in-Sat, in-Unsat+in_ok-log-in-Unsat}
 
-pub search-requires-clause-added : goal.search-requires-clause-added
-search-requires-clause-added c = within_moved (length c.self.inside.phases.items)
-    (length c.as_mut_slice.result.now) c.self.inside.added.items c.as_slice.result.now
-    (ap length c.as_mut_slice.ensures.value) c.as_slice.ensures.value c.self.invariant.added_within
+pub answer-requires-clause-solver : goal.answer-requires-clause-solver
+answer-requires-clause-solver c =
+    let added = c.self.inside.added.items in
+    solver_with added c.as_slice-added.result.now c.self.inside.empty c.self.inside.engine c.reset.new.self c.self.invariant
+    c.as_slice-added.ensures.value (c.reset.ensures.engine added c.self.invariant.engine)
 
-pub search-requires-clause-learnt : goal.search-requires-clause-learnt
-search-requires-clause-learnt c = within_same (length c.as_mut_slice.result.now)
-    (length c.self.inside.phases.items) c.self.inside.learnt.clauses.items (ap length c.as_mut_slice.ensures.value) c.self.invariant.learnt_within
+pub answer-requires-clause-assumed : goal.answer-requires-clause-assumed
+answer-requires-clause-assumed c =
+    within_same c.reset.new.self.propagator.links.vars c.args.self.now.vars (map unit_clause c.args.assumptions.now)
+    (ap (λ (l : WatchLists). l.vars) c.reset.ensures.links ∙ ap (λ (v : Solving). v.vars) c.self.view_is)
+    (within_units c.args.self.now.vars c.args.assumptions.now c.requires.known)
 
-pub search-requires-clause-assumed : goal.search-requires-clause-assumed
-search-requires-clause-assumed c =
-    within_same (length c.as_mut_slice.result.now) c.args.self.now.vars (map unit_clause c.args.assumptions.now)
-    (ap length c.as_mut_slice.ensures.value ∙ ap (λ p. p.vars) c.self.view_is) (within_units c.args.self.now.vars c.args.assumptions.now c.requires)
+pub returns-in_err-answer-clause-learnt : goal.returns-in_err-answer-clause-learnt
+returns-in_err-answer-clause-learnt c =
+    subst (λ (v : Solving). FollowFrom v.vars v.clauses v.kept c.answer.new.self.propagator.links) c.self.view_is
+    (follow_answer c.self.inside.added.items c.as_slice-added.result.now c.self.inside.empty c.self.inside.engine c.reset.new.self c.answer.new.self
+    c.as_slice-added.ensures.value c.reset.ensures.links c.answer.ensures.longer c.answer.ensures.solver)
 
-pub invariant_of-self : goal.invariant_of-self
-invariant_of-self c =
-    let old = c.self.inside.phases.items in
-    let e = ap length c.as_mut_slice.ensures.value in
-    let same : length c.search.new.phases ≡ length old = omega (arith, e, c.search.auto.phases) in
-    solver_moved (length old) _ (length c.as_mut_slice.result.now) c.self.inside.added.items c.as_slice.result.now c.self.inside.learnt.clauses.items
-    c.search.new.learnt.clauses.items c.self.inside.learnt.derivations.items c.search.new.learnt.derivations.items
-    (kept_length c.self.inside.phases.len old c.search.new.phases c.self.inside.phases.ok.0 same) e c.as_slice.ensures.value c.self.invariant
-    c.search.ensures.learnt c.search.ensures.derived
+pub returns-in_err-log-in-Unsat-clause-learnt : goal.returns-in_err-log-in-Unsat-clause-learnt
+returns-in_err-log-in-Unsat-clause-learnt c =
+    subst (λ (v : Solving). FollowFrom v.vars v.clauses v.kept c.answer.new.self.propagator.links) c.self.view_is
+    (follow_answer c.self.inside.added.items c.as_slice-added.result.now c.self.inside.empty c.self.inside.engine c.reset.new.self c.answer.new.self
+    c.as_slice-added.ensures.value c.reset.ensures.links c.answer.ensures.longer c.answer.ensures.solver)
 
-pub invariant_of-self-in_err-log-in-Unsat : goal.invariant_of-self-in_err-log-in-Unsat
-invariant_of-self-in_err-log-in-Unsat c =
-    let old = c.self.inside.phases.items in
-    let e = ap length c.as_mut_slice.ensures.value in
-    let same : length c.search.new.phases ≡ length old = omega (arith, e, c.search.auto.phases) in
-    solver_moved (length old) _ (length c.as_mut_slice.result.now) c.self.inside.added.items c.as_slice.result.now c.self.inside.learnt.clauses.items
-    c.search.new.learnt.clauses.items c.self.inside.learnt.derivations.items c.search.new.learnt.derivations.items
-    (kept_length c.self.inside.phases.len old c.search.new.phases c.self.inside.phases.ok.0 same) e c.as_slice.ensures.value c.self.invariant
-    c.search.ensures.learnt c.search.ensures.derived
-
-pub invariant_of-self-2 : goal.invariant_of-self-2
-invariant_of-self-2 c =
-    let old = c.self.inside.phases.items in
-    let e = ap length c.as_mut_slice.ensures.value in
-    let same : length c.search.new.phases ≡ length old = omega (arith, e, c.search.auto.phases) in
-    solver_moved (length old) _ (length c.as_mut_slice.result.now) c.self.inside.added.items c.as_slice.result.now c.self.inside.learnt.clauses.items
-    c.search.new.learnt.clauses.items c.self.inside.learnt.derivations.items c.search.new.learnt.derivations.items
-    (kept_length c.self.inside.phases.len old c.search.new.phases c.self.inside.phases.ok.0 same) e c.as_slice.ensures.value c.self.invariant
-    c.search.ensures.learnt c.search.ensures.derived
+pub returns-clause-learnt : goal.returns-clause-learnt
+returns-clause-learnt c =
+    subst (λ (v : Solving). FollowFrom v.vars v.clauses v.kept c.answer.new.self.propagator.links) c.self.view_is
+    (follow_answer c.self.inside.added.items c.as_slice-added.result.now c.self.inside.empty c.self.inside.engine c.reset.new.self c.answer.new.self
+    c.as_slice-added.ensures.value c.reset.ensures.links c.answer.ensures.longer c.answer.ensures.solver)
