@@ -1,39 +1,27 @@
 -- atoms: in every list of truth values in which the clauses of an atom hold, its literal is its truth value
-use Rattle.std.proofs.Common.{◌≡◌, ◌+◌, ◌<◌, ◌≤◌, ◌-◌, ◌*◌, ◌^◌, ℕ, zero, suc, Bool, true, false, not, ◌&&◌, ◌||◌, List, [], ◌∷◌, ◌++◌, length, get_or}
-use Rattle.std.proofs.Common.{Option, Some, None, refl, sym, ◌∙◌, ap, arith}
-use Rattle.std.specs.Prelude.{map, max, ℤ, pos, negsuc, ◌+ℤ◌, ◌-ℤ◌, neg_ℤ, int_le, nat_lt, slice_index_or, position, if◌then◌else◌}
+use Rattle.std.proofs.Common.{◌≡◌, ◌+◌, ◌<◌, ◌≤◌, ◌-◌, ℕ, suc, Bool, true, false, not, ◌&&◌, ◌||◌, List, [], ◌∷◌, length}
+use Rattle.std.proofs.Common.{refl, sym, ◌∙◌, ap, arith}
+use Rattle.std.specs.Prelude.{map, ℤ, pos, negsuc, ◌+ℤ◌, neg_ℤ, int_le, nat_lt, if◌then◌else◌}
 use Rattle.std.specs.Ordering.{int_eq}
-use Rattle.std.specs.Str.{bytes_eq}
-use Rattle.std.specs.List.{All, list_all, list_any}
+use Rattle.std.specs.List.{All}
 use Rattle.std.proofs.lemmas.Int.{ints}
-use Rattle.std.proofs.lemmas.Bool.{and_parts, and_from}
+use Rattle.std.proofs.lemmas.Bool.{and_parts}
 use Rattle.std.proofs.lemmas.Bool.Decides.{nat_tests, Decides-int_eq}
 use Rattle.std.proofs.lemmas.List.{length-map}
-use Rattle.std.proofs.lemmas.List.Elements.{All-nil, All-cons, All-head, All-tail}
-use Rattle.port_types.specs.declared.types.PortType.{PortType}
-use Rattle.port_types.specs.declared.types.PortType.TheVariants as kind
-use Rattle.port_types.specs.Types.{values}
-use Rattle.typed_ltl.specs.Formulas.{Number, Choice, Proposition}
-use Rattle.typed_ltl.specs.Formulas as form
-use Rattle.typed_ltl.specs.Traces.{assignment}
-use Rattle.typed_ltl.specs.Truth.{as_truth, as_number, read_value, number_value, proposition_truth}
 use Rattle.cnf.specs.declared.lit.Lit.{Lit}
 use Rattle.cnf.specs.Clauses.{opposite, lit_holds, clauses_hold, lit_values}
 use Rattle.cnf.specs.Gates.{literal, all_clauses}
-use Rattle.cnf.specs.Arithmetic.{signed_number, le_literal}
-use Rattle.cnf.specs.Bounds.{binary_digits, binary_number, constant_bits, has_places, at_most_const_clauses}
+use Rattle.cnf.specs.Bounds.{binary_digits, constant_bits, has_places, at_most_const_clauses}
 use Rattle.cnf.specs.Laws.{GatesAreRight}
-use Rattle.state_coding.specs.States.{var_row, state_values, HasBits}
-use Rattle.state_coding.specs.Numbers.{OffsetRow, TermCoding, opposite_offset_row, widen, common_places, row_sum, row_sum_clauses, row_sum_vars}
-use Rattle.state_coding.specs.Numbers.{plus_row_coding, port_bits, term_coding}
+use Rattle.state_coding.specs.States.{var_row}
+use Rattle.state_coding.specs.Numbers.{OffsetRow, TermCoding, opposite_offset_row, widen, common_places}
+use Rattle.state_coding.specs.Numbers.{plus_row_coding}
 use Rattle.state_coding.specs.Atoms
-use Rattle.state_coding.specs.Reads.{ReadsPorts, HasKind, IsBoolean}
-use Rattle.state_coding.proofs.CodeLaws.{length-binary_digits, length-var_row, var_row-within}
-use Rattle.state_coding.proofs.StateLaws.{parts_hold, within_later, bits_later}
+use Rattle.state_coding.proofs.CodeLaws.{length-binary_digits, var_row-within}
+use Rattle.state_coding.proofs.StateLaws.{parts_hold}
 use Rattle.state_coding.proofs.RowLaws.{row_number, opposites-within, length-widen, repeat-within, repeat_number, out_equal, out_at_most, same_bits}
 use Rattle.state_coding.proofs.RowLaws.{same_numbers, match_says, match-within, differ_says}
-use Rattle.state_coding.proofs.TermLaws.{TermShape, sum_number, term_is, term_shape, opposite_sum, opposite_within, plus_row_is, row_sum_within}
-use Rattle.state_coding.proofs.TermLaws.{port_bits_known}
+use Rattle.state_coding.proofs.TermLaws.{sum_number, opposite_sum, opposite_within, plus_row_is, row_sum_within}
 
 -- ---- truth values and constants
 

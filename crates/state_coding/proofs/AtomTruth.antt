@@ -1,39 +1,38 @@
 -- the literal of an atom's coding is its truth value
-use Rattle.std.proofs.Common.{◌≡◌, ◌≢◌, ◌+◌, ◌<◌, ◌≤◌, ◌*◌, ◌^◌, ℕ, zero, suc, Bool, true, false, List, [], ◌∷◌, ◌++◌, length, get_or, refl, sym, ◌∙◌, ap}
+use Rattle.std.proofs.Common.{◌≡◌, ◌+◌, ◌<◌, ◌≤◌, ◌*◌, ◌^◌, ℕ, zero, suc, Bool, true, false, List, [], ◌∷◌, ◌++◌, length, get_or, refl, sym, ◌∙◌, ap}
 use Rattle.std.proofs.Common.{arith}
-use Rattle.std.specs.Prelude.{map, ℤ, int_le, if◌then◌else◌}
+use Rattle.std.specs.Prelude.{ℤ, int_le, if◌then◌else◌}
 use Rattle.std.specs.Ordering.{int_eq}
 use Rattle.std.specs.Str.{bytes_eq}
 use Rattle.std.specs.List.{All}
 use Rattle.std.proofs.lemmas.List.{length-map}
 use Rattle.port_types.specs.declared.types.PortType.{PortType}
 use Rattle.port_types.specs.declared.types.PortType.TheVariants as kind
-use Rattle.port_types.specs.declared.types.Value.{Value}
 use Rattle.port_types.specs.declared.types.Value.TheVariants as value
 use Rattle.port_types.specs.Types.{values}
 use Rattle.typed_ltl.specs.Formulas.{Number, Choice, Proposition}
 use Rattle.typed_ltl.specs.Formulas as form
 use Rattle.typed_ltl.specs.Traces.{assignment}
-use Rattle.typed_ltl.specs.Truth.{as_truth, as_name, read_value, number_value, choice_name, proposition_truth}
+use Rattle.typed_ltl.specs.Truth.{as_truth, as_name, number_value, choice_name, proposition_truth}
 use Rattle.cnf.specs.declared.lit.Lit.{Lit}
-use Rattle.cnf.specs.Clauses.{lit_holds, clauses_hold, lit_values}
+use Rattle.cnf.specs.Clauses.{lit_holds, lit_values}
 use Rattle.cnf.specs.Gates.{literal}
 use Rattle.cnf.specs.Bounds.{binary_number}
 use Rattle.cnf.specs.Laws.{GatesAreRight}
-use Rattle.state_coding.specs.Codes.{IsCodable, bit_count, type_bits, value_at}
+use Rattle.state_coding.specs.Codes.{bit_count, type_bits, value_at}
 use Rattle.state_coding.specs.States.{state_values, HasBits, TwoStates}
-use Rattle.state_coding.specs.Numbers.{OffsetRow, TermCoding, opposite_offset_row, plus_row_coding, port_bits, term_coding}
+use Rattle.state_coding.specs.Numbers.{OffsetRow, TermCoding, port_bits, term_coding}
 use Rattle.state_coding.specs.Atoms
 use Rattle.state_coding.specs.Reads.{ReadsPorts, ReadsNumbers, ReadsEnumeration, IsBoolean, IsEnumeration}
 use Rattle.state_coding.proofs.CodeLaws.{count_fits, count_least}
 use Rattle.state_coding.proofs.StateLaws.{parts_hold, codable_few, within_later, bits_later}
 use Rattle.state_coding.proofs.TermLaws.{PortRow, TermShape, sum_number, term_is, term_shape, row_below, read_row, read_is}
 use Rattle.state_coding.proofs.AtomLaws.{Says, truth_is, equal_more, at_most_more, equal_is, at_most_is}
-use Rattle.state_coding.proofs.NameLaws.{Enumeration, NamedPair, name_value, name_is, same_ports_is, same_either_way}
+use Rattle.state_coding.proofs.NameLaws.{Enumeration, name_value, name_is, same_ports_is, same_either_way}
 
 -- ---- booleans
 
-boolean_width : type_bits kind.Bool ≡ 1
+pub boolean_width : type_bits kind.Bool ≡ 1
 boolean_width =
     let low : 2 ≤ 2 ^ bit_count 2 = count_fits 2 (omega arith) (omega arith) in
     let high : bit_count 2 ≤ 1 = count_least 2 1 (omega arith) (omega arith) (omega arith) in
@@ -58,18 +57,21 @@ boolean_is model kind.Bool (x ∷ y ∷ row) d is r = let e : length (x ∷ y �
 
 -- ---- terms
 
+-- a comparison of terms in clauses, and what its literal says of their values
+record Comparison (model : List Bool) (compare : ℕ → OffsetRow → OffsetRow → Atoms.AtomCoding) (result : ℤ → ℤ → Bool) : Type 0 where
+  pub more : (m : ℕ) (x y : OffsetRow) → m ≤ (compare m x y).vars
+  pub says : (m : ℕ) (x y : OffsetRow) → All (λ lit. lit.var < length model) x.row → All (λ lit. lit.var < length model) y.row
+      → Says model (compare m x y) (result (sum_number model x) (sum_number model y))
+
 compared : (g : GatesAreRight) (model : List Bool) (ports : List PortType) (now next : List (List Lit)) (n : ℕ)
     (a b : Number) (compare : ℕ → OffsetRow → OffsetRow → Atoms.AtomCoding) (result : ℤ → ℤ → Bool)
-    → ((m : ℕ) (x y : OffsetRow) → m ≤ (compare m x y).vars)
-    → ((m : ℕ) (x y : OffsetRow) → All (λ lit. lit.var < length model) x.row → All (λ lit. lit.var < length model) y.row
-    → Says model (compare m x y) (result (sum_number model x) (sum_number model y)))
-    → TwoStates model ports now next → HasBits n ports now → HasBits n ports next → ReadsNumbers ports a
+    → Comparison model compare result → TwoStates model ports now next → HasBits n ports now → HasBits n ports next → ReadsNumbers ports a
     → ReadsNumbers ports b
     → Says model (Atoms.compared_coding compare (term_coding ports now next n a)
     (term_coding ports now next (term_coding ports now next n a).vars b))
     (result (number_value (assignment (state_values model ports now)) (assignment (state_values model ports next)) a)
     (number_value (assignment (state_values model ports now)) (assignment (state_values model ports next)) b))
-compared g model ports now next n a b compare result more is two hn hx ra rb room h =
+compared g model ports now next n a b compare result is two hn hx ra rb room h =
     let x : TermCoding = term_coding ports now next n a in
     let y : TermCoding = term_coding ports now next x.vars b in
     let sx : TermShape n x = term_shape ports now next n a hn hx in
@@ -77,10 +79,10 @@ compared g model ports now next n a b compare result more is two hn hx ra rb roo
     let mx = bits_later n x.vars ports next sx.vars hx in
     let sy : TermShape x.vars y = term_shape ports now next x.vars b mn mx in
     let le : x.vars ≤ y.vars = sy.vars in
-    let last : y.vars ≤ (compare y.vars x.sum y.sum).vars = more y.vars x.sum y.sum in
+    let last : y.vars ≤ (compare y.vars x.sum y.sum).vars = is.more y.vars x.sum y.sum in
     let both = parts_hold model (x.clauses ++ y.clauses) (compare y.vars x.sum y.sum).clauses h in
     let terms = parts_hold model x.clauses y.clauses both.0 in
-    is y.vars x.sum y.sum (within_later x.vars (length model) x.sum.row (omega arith) sx.known)
+    is.says y.vars x.sum y.sum (within_later x.vars (length model) x.sum.row (omega arith) sx.known)
     (within_later y.vars (length model) y.sum.row (omega arith) sy.known) room both.1
     ∙ rw (term_is g model ports now next n a two hn hx ra (omega arith) terms.0, term_is g model ports now next x.vars b two mn mx rb (omega arith) terms.1)
     refl
@@ -172,7 +174,8 @@ atom_is g model ports now next n (form.TruthAt p b) two hn hx reads room h =
     boolean_is model (get_or ports p kind.Bool) (port_bits now next p b) (literal n) reads.1 (read_row model ports now next p b two reads.0)
     ∙ ap as_truth (sym (read_is model ports now next p b two reads.0))
 atom_is g model ports now next n (form.Equals a b) two hn hx reads room h =
-    compared g model ports now next n a b Atoms.equal_coding int_eq equal_more (equal_is g model) two hn hx reads.0 reads.1 room h
+    compared g model ports now next n a b Atoms.equal_coding int_eq (record { more = equal_more; says = equal_is g model }) two hn hx reads.0 reads.1 room h
 atom_is g model ports now next n (form.AtMost a b) two hn hx reads room h =
-    compared g model ports now next n a b Atoms.at_most_coding int_le at_most_more (at_most_is g model) two hn hx reads.0 reads.1 room h
+    compared g model ports now next n a b Atoms.at_most_coding int_le (record { more = at_most_more; says = at_most_is g model }) two hn hx reads.0
+    reads.1 room h
 atom_is g model ports now next n (form.SameName a b) two hn hx reads room h = same_is g model ports now next n a b two reads.0 reads.1 room h

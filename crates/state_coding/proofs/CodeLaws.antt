@@ -1,7 +1,7 @@
 -- codes of one port: how many bits, which numbers, which values
-use Rattle.std.proofs.Common.{◌≡◌, ◌≢◌, ◌+◌, ◌<◌, ◌≤◌, ◌-◌, ◌*◌, ◌/◌, ◌%◌, ◌^◌, ℕ, zero, suc, Bool, true, false, not, ◌&&◌, List, [], ◌∷◌, ◌++◌, length}
+use Rattle.std.proofs.Common.{◌≡◌, ◌≢◌, ◌+◌, ◌<◌, ◌≤◌, ◌-◌, ◌*◌, ◌/◌, ◌%◌, ◌^◌, ℕ, zero, suc, Bool, true, false, List, [], ◌∷◌, ◌++◌, length}
 use Rattle.std.proofs.Common.{drop, get_or, length-drop, refl, sym, ◌∙◌, ap, inl, inr, arith, append_assoc, length-append}
-use Rattle.std.specs.Prelude.{map, ℤ, pos, ◌+ℤ◌, Some, slice_get, nat_eq, nat_le, slice_index_or, if◌then◌else◌}
+use Rattle.std.specs.Prelude.{map, ℤ, pos, ◌+ℤ◌, Some, slice_get, nat_eq, nat_le, if◌then◌else◌}
 use Rattle.std.specs.List.{All, AllPairs, Contains}
 use Rattle.std.proofs.lemmas.Int.{ints}
 use Rattle.std.proofs.lemmas.Option.{slice_get-get_or}
@@ -13,7 +13,7 @@ use Rattle.std.proofs.lemmas.Nat.{leading_length}
 use Rattle.std.proofs.lemmas.Bool.Decides.{nat_tests}
 use Rattle.std.proofs.lemmas.Bool.{cases_lt}
 use Rattle.std.proofs.lemmas.List.{length-map, get_or-map}
-use Rattle.std.proofs.lemmas.List.Elements.{All-nil, All-cons, All-head, All-tail, Contains-get_or}
+use Rattle.std.proofs.lemmas.List.Elements.{All-nil, All-cons, Contains-get_or}
 use Rattle.port_types.specs.declared.types.PortType.{PortType}
 use Rattle.port_types.specs.declared.types.PortType.TheVariants as kind
 use Rattle.port_types.specs.declared.types.Value.{Value}
@@ -22,7 +22,7 @@ use Rattle.port_types.specs.Types.{values, range_size}
 use Rattle.cnf.specs.declared.lit.Lit.{Lit}
 use Rattle.cnf.specs.Clauses.{lit_holds, lit_values, clauses_hold}
 use Rattle.cnf.specs.Gates.{literal}
-use Rattle.cnf.specs.Bounds.{binary_digits, binary_number, limit_clauses}
+use Rattle.cnf.specs.Bounds.{binary_digits, binary_number}
 use Rattle.cnf.specs.Laws.{GatesAreRight}
 use Rattle.state_coding.specs.Codes.{IsCodable, bit_count, type_bits, value_at, code_clauses}
 use Rattle.state_coding.specs.States.{var_row}
@@ -200,20 +200,6 @@ one_place_each (kind.Enum names) codable i j d less h =
     two_names names i j d [] codable.0.1 less (let size : length (values (kind.Enum names)) ≡ length names = length-map names value.Name in omega arith)
 
 -- ---- the code
-
-any_truth : (xs : List Bool) (i : ℕ) (d e : Bool) → i < length xs → get_or xs i d ≡ get_or xs i e
-any_truth [] i d e h = absurd (omega arith)
-any_truth (x ∷ xs) zero d e h = refl
-any_truth (x ∷ xs) (suc i) d e h = any_truth xs i d e (omega arith)
-
-pub negative_lit : (model : List Bool) (lit : Lit) → lit.var < length model → lit.positive ≡ false
-    → not (get_or model lit.var false) ≡ lit_holds model lit
-negative_lit model lit h e = sym (ap (λ s. if s then get_or model lit.var false else not (get_or model lit.var true)) e ∙ ap not
-    (any_truth model lit.var true false h))
-
-pub positive_lit : (model : List Bool) (lit : Lit) → lit.positive ≡ true
-    → get_or model lit.var false ≡ lit_holds model lit
-positive_lit model lit e = sym (ap (λ s. if s then get_or model lit.var false else not (get_or model lit.var true)) e)
 
 -- digits that are read from the highest down stay small
 pub number_small : (digits : List Bool) (place number : ℕ) → number ≡ binary_number (drop place digits) → 0 < place

@@ -1,5 +1,5 @@
 -- what the code of states has at each exit
-use Rattle.std.proofs.Common.{◌≡◌, ◌+◌, ◌<◌, ◌≤◌, ◌-◌, ◌*◌, ◌^◌, ℕ, zero, suc, Bool, true, false, ◌&&◌, List, [], ◌∷◌, ◌++◌, length, drop, get_or, Option}
+use Rattle.std.proofs.Common.{◌≡◌, ◌+◌, ◌<◌, ◌≤◌, ◌-◌, ℕ, zero, suc, Bool, true, false, List, [], ◌∷◌, ◌++◌, length, drop, get_or, Option}
 use Rattle.std.proofs.Common.{refl, sym, ◌∙◌, ap, subst, add-one, arith, append_assoc, length-append}
 use Rattle.std.specs.Prelude.{replicate, ℤ, pos, Some, slice_get}
 use Rattle.std.specs.List.{All, Contains}
@@ -28,9 +28,6 @@ pub row_goes_on : (n m left left' : ℕ) (row row' total : List Lit) (lit : Lit)
     → row' ≡ row ++ lit ∷ [] → lit ≡ literal n → m ≡ n + 1 → row ++ var_row n left ≡ total
     → row' ++ var_row m left' ≡ total
 row_goes_on n m left left' row row' total lit el er ei em h = rw (er, ei, em) (append_assoc row _ _ ∙ (rw el at h))
-
-pub row_ends : (n left : ℕ) (row total : List Lit) → left ≡ 0 → row ++ var_row n left ≡ total → row ≡ total
-row_ends n left row total e h = sym (append_nil row) ∙ (rw e at h)
 
 -- more variables alone
 pub variables_extend : (n m : ℕ) (older newer : List (List Lit)) → n ≤ m → newer ≡ older
@@ -165,12 +162,6 @@ added_every g n m older newer ports bits a codable model is valuation typed =
       },
       ap (state_values (model ++ e.more) ports) a.rows ∙ e.reads,
     )
-
--- the limit that the code adds is that of the codes
-pub limit_is : (kind : PortType) (row : List Lit) (bound : List Bool) (z : ℤ) (count : ℕ)
-    → bound ≡ constant_bits (length row) z → z ≡ pos (count - 1) → count ≡ length (values kind)
-    → limit_clauses row bound ≡ code_clauses kind row
-limit_is kind row bound z count eb ez ec = rw (eb, ez, ec) refl
 
 pub port_limit : (kind : PortType) (row slice : List Lit) (lits bound : List Bool) (n : ℕ) (z : ℤ) (count : ℕ)
     → slice ≡ row → lits ≡ bound → bound ≡ constant_bits n z → n ≡ length row → z ≡ pos (count - 1)

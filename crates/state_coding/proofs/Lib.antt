@@ -6,3 +6,8 @@ pub mod AtomLaws
 pub mod NameLaws
 pub mod AtomTruth
 pub mod CodeSteps
+pub mod AtomSteps
+pub mod SumSteps
+pub mod NameSteps
+pub mod TermSteps
+pub mod AtomEnds

@@ -1,8 +1,7 @@
 -- names: an enumeration's bits are the place of its name, and each name has one place
-use Rattle.std.proofs.Common.{◌≡◌, ◌≢◌, ◌+◌, ◌<◌, ◌≤◌, ◌-◌, ◌*◌, ◌^◌, ℕ, zero, suc, Bool, true, false, not, ◌&&◌, ◌||◌, List, [], ◌∷◌, ◌++◌, length}
-use Rattle.std.proofs.Common.{get_or, Option, refl, sym, ◌∙◌, ap, ◌⊎◌, inl, inr, zero-add, arith}
-use Rattle.std.specs.Prelude.{map, Some, None, nat_eq, nat_lt, cond, position, if◌then◌else◌}
-use Rattle.std.specs.Bool.{Decides}
+use Rattle.std.proofs.Common.{◌≡◌, ◌≢◌, ◌+◌, ◌<◌, ◌≤◌, ◌*◌, ◌^◌, ℕ, zero, suc, Bool, true, false, not, ◌&&◌, ◌||◌, List, [], ◌∷◌, ◌++◌, length}
+use Rattle.std.proofs.Common.{get_or, Option, refl, sym, ◌∙◌, ap, inl, inr, zero-add, arith}
+use Rattle.std.specs.Prelude.{Some, None, nat_eq, nat_lt, cond, position, if◌then◌else◌}
 use Rattle.std.specs.Str.{bytes_eq}
 use Rattle.std.specs.Cmp.Lexicographic.{pointwise}
 use Rattle.std.specs.List.{prefix_len, All, AllPairs, list_all, list_any}
@@ -13,22 +12,19 @@ use Rattle.std.proofs.lemmas.List.{length-map}
 use Rattle.std.proofs.lemmas.List.Folds.{list_all-append, list_any-append}
 use Rattle.std.proofs.lemmas.List.Quantifiers.{position-Some}
 use Rattle.std.proofs.lemmas.List.Elements.{All-nil, All-cons, All-head, All-tail, All-append}
-use Rattle.port_types.specs.declared.types.PortType.{PortType}
 use Rattle.port_types.specs.declared.types.PortType.TheVariants as kind
-use Rattle.port_types.specs.declared.types.Value.{Value}
 use Rattle.port_types.specs.declared.types.Value.TheVariants as value
 use Rattle.port_types.specs.Types.{values}
 use Rattle.typed_ltl.specs.Truth.{as_name}
 use Rattle.cnf.specs.declared.lit.Lit.{Lit}
-use Rattle.cnf.specs.Clauses.{opposite, lit_holds, clauses_hold, lit_values}
-use Rattle.cnf.specs.Gates.{literal, xor, all_clauses, any_clauses}
+use Rattle.cnf.specs.Clauses.{lit_holds, clauses_hold, lit_values}
+use Rattle.cnf.specs.Gates.{xor, all_clauses, any_clauses}
 use Rattle.cnf.specs.Bounds.{binary_digits, binary_number}
 use Rattle.cnf.specs.Laws.{GatesAreRight}
-use Rattle.state_coding.specs.Codes.{value_at}
 use Rattle.state_coding.specs.States.{var_row}
 use Rattle.state_coding.specs.Atoms
-use Rattle.state_coding.proofs.CodeLaws.{length-binary_digits, digits_number, length-var_row, var_row-within}
-use Rattle.state_coding.proofs.StateLaws.{parts_hold, within_later}
+use Rattle.state_coding.proofs.CodeLaws.{length-binary_digits, digits_number, var_row-within}
+use Rattle.state_coding.proofs.StateLaws.{parts_hold}
 use Rattle.state_coding.proofs.RowLaws.{same_bits, match_says, match-within}
 use Rattle.state_coding.proofs.AtomLaws.{Says, truth_is, same_rows_is}
 
@@ -83,11 +79,6 @@ one_place names i j d distinct hi hj e =
         | inr least ↦ omega arith
       ]
     ]
-
-any_name : (names : List (List ℕ)) (i : ℕ) (d e : List ℕ) → i < length names → get_or names i d ≡ get_or names i e
-any_name [] i d e h = absurd (omega arith)
-any_name (x ∷ xs) zero d e h = refl
-any_name (x ∷ xs) (suc i) d e h = any_name xs i d e (omega arith)
 
 -- the code is the place of a name exactly where the code's name is that one
 found_name : (names : List (List ℕ)) (name : List ℕ) (k i : ℕ) → AllPairs (λ a b. a ≢ b) names → k < length names

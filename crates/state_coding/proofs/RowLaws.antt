@@ -1,20 +1,18 @@
 -- rows as numbers: codes, opposites, wider rows, sums, and rows that are the same
-use Rattle.std.proofs.Common.{◌≡◌, ◌+◌, ◌<◌, ◌≤◌, ◌-◌, ◌*◌, ◌^◌, ℕ, zero, suc, Bool, true, false, not, ◌&&◌, ◌||◌, List, [], ◌∷◌, ◌++◌, length, get_or}
-use Rattle.std.proofs.Common.{refl, sym, ◌∙◌, ap, ◌⊎◌, inl, inr, arith, append_assoc, length-append}
-use Rattle.std.specs.Prelude.{map, replicate, max, ℤ, pos, negsuc, ◌+ℤ◌, ◌-ℤ◌, ◌*ℤ◌, ◌≤ℤ◌, ◌<ℤ◌, neg_ℤ, int_le, nat_lt, if◌then◌else◌}
+use Rattle.std.proofs.Common.{◌≡◌, ◌+◌, ◌<◌, ◌≤◌, ◌-◌, ◌*◌, ◌^◌, ℕ, zero, suc, Bool, true, false, not, ◌&&◌, List, [], ◌∷◌, length}
+use Rattle.std.proofs.Common.{refl, sym, ◌∙◌, ap, ◌⊎◌, inl, inr, arith}
+use Rattle.std.specs.Prelude.{map, replicate, ℤ, pos, negsuc, ◌+ℤ◌, ◌-ℤ◌, ◌*ℤ◌, ◌≤ℤ◌, ◌<ℤ◌, neg_ℤ, int_le, nat_lt, if◌then◌else◌}
 use Rattle.std.specs.Ordering.{int_eq}
 use Rattle.std.specs.List.{All, list_all}
 use Rattle.std.proofs.Math.Nat.{pow-suc}
 use Rattle.std.proofs.lemmas.Int.{ints}
-use Rattle.std.proofs.lemmas.Bool.{cases_lt}
 use Rattle.std.proofs.lemmas.Bool.Decides.{nat_tests}
-use Rattle.std.proofs.lemmas.List.{map-append, length-map}
 use Rattle.std.proofs.lemmas.List.Elements.{All-nil, All-cons, All-head, All-tail}
 use Rattle.cnf.specs.declared.lit.Lit.{Lit}
 use Rattle.cnf.specs.Clauses.{opposite, lit_holds, clauses_hold, lit_values}
-use Rattle.cnf.specs.Gates.{literal, xor, xor_clauses, all_clauses}
-use Rattle.cnf.specs.Arithmetic.{bit, signed_number, sum_clauses, sum_bits}
-use Rattle.cnf.specs.Bounds.{binary_number, has_places, constant_bits}
+use Rattle.cnf.specs.Gates.{literal, xor, xor_clauses}
+use Rattle.cnf.specs.Arithmetic.{bit, signed_number}
+use Rattle.cnf.specs.Bounds.{binary_number, has_places}
 use Rattle.cnf.specs.Laws.{GatesAreRight}
 use Rattle.state_coding.specs.States.{var_row}
 use Rattle.state_coding.specs.Numbers.{half, signed_row, repeat_top, widen, common_places, row_sum, row_sum_clauses, row_sum_vars}

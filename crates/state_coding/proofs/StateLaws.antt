@@ -1,25 +1,25 @@
 -- codes of all ports
-use Rattle.std.proofs.Common.{◌≡◌, ◌+◌, ◌<◌, ◌≤◌, ◌-◌, ◌^◌, ℕ, zero, suc, Bool, true, false, ◌&&◌, List, [], ◌∷◌, ◌++◌, length, get_or, refl, sym, ◌∙◌, ap}
+use Rattle.std.proofs.Common.{◌≡◌, ◌+◌, ◌<◌, ◌≤◌, ◌^◌, ℕ, Bool, true, ◌&&◌, List, [], ◌∷◌, ◌++◌, length, refl, sym, ◌∙◌, ap}
 use Rattle.std.proofs.Common.{arith, append_assoc, length-append}
-use Rattle.std.specs.Prelude.{ℤ, pos, negsuc, ◌+ℤ◌, ◌-ℤ◌, ◌≤ℤ◌, neg_ℤ, slice_index_or}
+use Rattle.std.specs.Prelude.{ℤ, pos, negsuc, ◌+ℤ◌, ◌-ℤ◌, ◌≤ℤ◌, neg_ℤ}
 use Rattle.std.proofs.lemmas.Int.{ints}
 use Rattle.std.proofs.lemmas.List.{length-map}
 use Rattle.std.proofs.lemmas.List.FromFn.{length-map-range_with_len}
-use Rattle.std.specs.List.{All, Contains}
+use Rattle.std.specs.List.{All}
 use Rattle.std.proofs.lemmas.Bool.{and_parts, and_from}
 use Rattle.std.proofs.lemmas.List.Folds.{list_all-append}
-use Rattle.std.proofs.lemmas.List.Elements.{All-nil, All-cons, All-head, All-tail, All-weaker}
+use Rattle.std.proofs.lemmas.List.Elements.{All-head, All-tail, All-weaker}
 use Rattle.port_types.specs.declared.types.PortType.{PortType}
 use Rattle.port_types.specs.declared.types.PortType.TheVariants as kind
 use Rattle.port_types.specs.declared.types.Value.{Value}
 use Rattle.port_types.specs.declared.types.Value.TheVariants as value
 use Rattle.port_types.specs.Types.{natural_part, range_size, values}
 use Rattle.cnf.specs.declared.lit.Lit.{Lit}
-use Rattle.cnf.specs.Clauses.{lit_holds, clause_holds, clauses_hold, lit_values, IsModel}
+use Rattle.cnf.specs.Clauses.{clause_holds, clauses_hold, lit_values}
 use Rattle.cnf.specs.Bounds.{binary_digits, binary_number}
 use Rattle.cnf.specs.Laws.{GatesAreRight}
 use Rattle.state_coding.specs.Codes.{IsCodable, type_bits, value_at, code_clauses}
-use Rattle.state_coding.specs.States.{var_row, state_bits, state_width, state_clauses, state_values, IsValuation, HasBits, IsCodedState}
+use Rattle.state_coding.specs.States.{var_row, state_bits, state_width, state_clauses, state_values, IsValuation, HasBits}
 use Rattle.state_coding.proofs.CodeLaws.{length-binary_digits, digits_number, count_fits, length-var_row, var_row-within, row_reads, code_holds}
 use Rattle.state_coding.proofs.CodeLaws.{code_below, value_typed, value_of_place}
 

@@ -1,14 +1,13 @@
 -- terms: in every list of truth values in which the clauses of a term hold, its offset and row are its value
-use Rattle.std.proofs.Common.{◌≡◌, ◌+◌, ◌<◌, ◌≤◌, ◌-◌, ◌*◌, ◌^◌, ℕ, zero, suc, Bool, true, false, List, [], ◌∷◌, ◌++◌, length, get_or, refl, sym, ◌∙◌, ap}
+use Rattle.std.proofs.Common.{◌≡◌, ◌+◌, ◌<◌, ◌≤◌, ◌*◌, ℕ, zero, suc, Bool, true, false, List, [], ◌∷◌, ◌++◌, length, get_or, refl, sym, ◌∙◌, ap}
 use Rattle.std.proofs.Common.{arith}
-use Rattle.std.specs.Prelude.{map, ℤ, pos, negsuc, ◌+ℤ◌, ◌-ℤ◌, neg_ℤ, slice_index_or}
-use Rattle.std.specs.List.{All, range_with_len}
+use Rattle.std.specs.Prelude.{map, ℤ, pos, negsuc, ◌+ℤ◌, ◌-ℤ◌, neg_ℤ}
+use Rattle.std.specs.List.{All}
 use Rattle.std.proofs.lemmas.Int.{ints}
 use Rattle.std.proofs.lemmas.List.FromFn.{get_or-map-range_with_len, length-map-range_with_len}
-use Rattle.std.proofs.lemmas.List.Elements.{All-nil, All-cons, All-head, All-tail, All-weaker}
+use Rattle.std.proofs.lemmas.List.Elements.{All-nil, All-cons, All-head, All-tail}
 use Rattle.port_types.specs.declared.types.PortType.{PortType}
 use Rattle.port_types.specs.declared.types.PortType.TheVariants as kind
-use Rattle.port_types.specs.declared.types.Value.{Value}
 use Rattle.port_types.specs.declared.types.Value.TheVariants as value
 use Rattle.port_types.specs.Types.{values, range_size}
 use Rattle.typed_ltl.specs.Formulas.{Number}
@@ -16,20 +15,20 @@ use Rattle.typed_ltl.specs.Formulas as form
 use Rattle.typed_ltl.specs.Traces.{assignment}
 use Rattle.typed_ltl.specs.Truth.{as_number, read_value, number_value}
 use Rattle.cnf.specs.declared.lit.Lit.{Lit}
-use Rattle.cnf.specs.Clauses.{opposite, lit_holds, clauses_hold, lit_values}
+use Rattle.cnf.specs.Clauses.{opposite, clauses_hold, lit_values}
 use Rattle.cnf.specs.Gates.{literal}
-use Rattle.cnf.specs.Arithmetic.{signed_number, later_sum_bits, sum_bits}
+use Rattle.cnf.specs.Arithmetic.{later_sum_bits, sum_bits}
 use Rattle.cnf.specs.Bounds.{binary_number}
 use Rattle.cnf.specs.Laws.{GatesAreRight}
 use Rattle.state_coding.specs.Codes.{IsCodable, type_bits, value_at, code_clauses}
 use Rattle.state_coding.specs.States.{state_clauses, state_values, HasBits, TwoStates}
-use Rattle.state_coding.specs.Numbers.{OffsetRow, TermCoding, half, signed_row, code_offset_row, port_offset_row, opposite_of, opposite_offset_row, widen}
+use Rattle.state_coding.specs.Numbers.{OffsetRow, TermCoding, half, signed_row, port_offset_row, opposite_of, opposite_offset_row, widen}
 use Rattle.state_coding.specs.Numbers.{common_places, row_sum, row_sum_clauses, row_sum_vars, plus_row_coding, plus_coding, negate_coding, port_bits}
 use Rattle.state_coding.specs.Numbers.{term_coding}
-use Rattle.state_coding.specs.Reads.{ReadsNumbers, HasKind, IsRange}
+use Rattle.state_coding.specs.Reads.{ReadsNumbers, IsRange}
 use Rattle.state_coding.proofs.CodeLaws.{code_below}
 use Rattle.state_coding.proofs.StateLaws.{parts_hold, codable_few, within_later, bits_later}
-use Rattle.state_coding.proofs.RowLaws.{row_number, code_number, signed_row-within, opposite_number, opposites-within, length-widen, repeat-within}
+use Rattle.state_coding.proofs.RowLaws.{row_number, code_number, signed_row-within, opposite_number, opposites-within, length-widen}
 use Rattle.state_coding.proofs.RowLaws.{row_sum_number}
 
 -- ---- ports

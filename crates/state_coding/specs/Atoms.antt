@@ -1,7 +1,7 @@
 -- Atoms in clauses, over the number n of variables before them: the number of variables after, the clauses
 -- that come, and the literal that is the atom's truth value.
 
-use Rattle.std.specs.Prelude.{◌≡◌, ℕ, ◌+◌, Bool, true, false, ◌&&◌, ℤ, pos, neg_ℤ, int_le, nat_lt, Option, Some}
+use Rattle.std.specs.Prelude.{ℕ, ◌+◌, Bool, true, false, ◌&&◌, ℤ, pos, neg_ℤ, int_le, nat_lt, Option, Some}
 use Rattle.std.specs.Prelude.{None, List, [], ◌∷◌, ◌++◌, length, map, slice_index_or, position, if◌then◌else◌}
 use Rattle.std.specs.Ordering.{int_eq}
 use Rattle.std.specs.Str.{bytes_eq}

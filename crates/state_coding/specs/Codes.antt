@@ -12,7 +12,6 @@ use Rattle.port_types.specs.declared.types.Value.{Value}
 use Rattle.port_types.specs.declared.types.Value.TheVariants as value
 use Rattle.port_types.specs.Types.{values, IsDeclarable}
 use Rattle.cnf.specs.declared.lit.Lit.{Lit}
-use Rattle.cnf.specs.Clauses.{lit_values}
 use Rattle.cnf.specs.Bounds.{binary_digits, binary_number, limit_clauses}
 
 -- the number of bits for c values: the digits of c - 1, whose length is the least b with 2^b at least c

@@ -50,7 +50,8 @@ HasBits n _ _ = ⊥
 
 -- bits that were coded as a state in these clauses, over n variables: where the clauses hold, so do the
 -- state's own. More variables and clauses change nothing of it (law `states_stay`).
-pub record IsCodedState (n : ℕ) (clauses : List (List Lit)) (ports : List PortType) (bits : List (List Lit)) : Type 0 where
+pub record IsCodedState (n : ℕ) (clauses : List (List Lit)) (ports : List PortType)
+    (bits : List (List Lit)) : Type 0 where
   pub shape : HasBits n ports bits
   pub holds : (model : List Bool) → clauses_hold model clauses ≡ true
       → clauses_hold model (state_clauses ports bits) ≡ true

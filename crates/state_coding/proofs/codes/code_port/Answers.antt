@@ -1,8 +1,8 @@
-use Rattle.std.proofs.Common.{rules, w64, ◌≡◌, ◌+◌, ◌∙◌, ◌++◌, List, [], refl, sym, ap, arith}
+use Rattle.std.proofs.Common.{rules, w64, ◌+◌, ◌∙◌, ◌++◌, List, [], ap}
 use Rattle.std.proofs.lemmas.Int.{to_z-of_z}
 use Rattle.cnf.specs.declared.lit.Lit.{Lit}
-use Rattle.cnf.specs.Bounds.{constant_bits, limit_clauses}
-use Rattle.state_coding.specs.Codes.{code_clauses, type_bits}
+use Rattle.cnf.specs.Bounds.{limit_clauses}
+use Rattle.state_coding.specs.Codes.{code_clauses}
 use Rattle.state_coding.specs.States.{var_row}
 use Rattle.cnf.proofs.ModelLaws.{append_nil}
 use Rattle.state_coding.proofs.CodeSteps.{variables_extend, port_extends, port_limit, bound_length, row_known}

@@ -1,4 +1,4 @@
-use Rattle.std.proofs.Common.{◌≤◌, length, arith}
+use Rattle.std.proofs.Common.{arith}
 use Rattle.std.proofs.lemmas.List.{length-map}
 use Rattle.cnf.specs.Clauses.{lit_holds, lit_values}
 use Rattle.state_coding.proofs.CodeLaws.{number_small, number_goes_on}

@@ -1,4 +1,4 @@
-use Rattle.std.proofs.Common.{◌≡◌, ◌∙◌, ◌<◌, length, refl, arith}
+use Rattle.std.proofs.Common.{arith}
 use Rattle.cnf.proofs.ModelLaws.{IsConservative_trans}
 use Rattle.state_coding.proofs.CodeSteps.{listed, element_codable, element_at, width_goes_on, bits_go_on, clauses_go_on, state_added, added_is_state}
 use Rattle.state_coding.proofs.CodeSteps.{added_typed}

@@ -1,6 +1,4 @@
-use Rattle.std.proofs.Common.{[], ◌∙◌, ap, get_or, refl, sym, subst, arith}
-use Rattle.std.specs.List.{All}
-use Rattle.port_types.specs.declared.types.PortType.TheVariants as kind
+use Rattle.std.proofs.Common.{[], ◌∙◌, ap, get_or, sym, subst, arith}
 use Rattle.cnf.specs.Clauses.{lit_values}
 use Rattle.state_coding.specs.Codes.{value_at}
 use Rattle.state_coding.specs.States.{IsValuation}
