@@ -1,5 +1,6 @@
 -- Marks on the nodes that are reached.
-use Rattle.std.proofs.Common.{◌≡◌, ℕ, suc, ◌+◌, ◌<◌, ◌≤◌, inl, inr, Bool, true, false, List, [], ◌∷◌, ◌++◌, length, get_or, take, drop, sym, ap, ◌∙◌, arith, subst}
+use Rattle.std.proofs.Common.{◌≡◌, ℕ, suc, ◌+◌, ◌<◌, ◌≤◌, inl, inr, Bool, true, false, List, [], ◌∷◌, ◌++◌, length, get_or, take, drop, sym, ap, ◌∙◌, arith}
+use Rattle.std.proofs.Common.{subst}
 use Rattle.std.specs.Prelude.{All, Contains}
 use Rattle.std.proofs.Math.ListN.{set, replicate}
 use Rattle.std.proofs.Math.Seq.{take-append_seam}

@@ -1,5 +1,6 @@
 -- The sets of the nodes so far, one node more.
-use Rattle.std.proofs.Common.{◌≡◌, ℕ, suc, ◌+◌, ◌<◌, ◌≤◌, inl, inr, ◌↔◌, Bool, true, false, List, [], ◌∷◌, ◌++◌, length, get_or, take, drop, map, refl, sym, ap, ◌∙◌, arith, subst, length-append}
+use Rattle.std.proofs.Common.{◌≡◌, ℕ, suc, ◌+◌, ◌<◌, ◌≤◌, inl, inr, ◌↔◌, Bool, true, false, List, [], ◌∷◌, ◌++◌, length, get_or, take, drop, map, refl, sym, ap}
+use Rattle.std.proofs.Common.{◌∙◌, arith, subst, length-append}
 use Rattle.std.specs.Prelude.{All, Contains, Result, IfOk, Option, MatchOption}
 use Rattle.std.specs.Option.{IfSome}
 use Rattle.std.proofs.Common.{Ok, Err, Some, None}

@@ -215,23 +215,28 @@ normal_forms spec w k pre rank falls (suc n) p c d r l = elim (refined_or_not sp
   | inr leaf ↦ pre.leaves p c d r leaf
 ]
 
+-- an item lists this contract of this subcomponent, which is an instance of this component
+record IsListedHere (spec : Spec) (item : Item) (s : SubId) (b : ComponentId) (e : ContractId) : Type 0 where
+  component : sub_component spec item.component s ≡ Some b
+  place : ℕ
+  at : slice_get item.parts place ≡ Some (s, e)
+
 -- one step down: the assumption of a listed contract
 step_down : (spec : Spec) (w : Path → Trace) (k : ContractId) → Premises spec w k
     → ((p : Path) (c : ComponentId) (d : ContractId) → IsReached spec k p c d → HasNormalForm spec w p c d)
     → (p : Path) (c : ComponentId) (d : ContractId) (item : Item) → IsReached spec k p c d → IsRefinedBy spec c d item
     → Holds (w p) (assumption spec item.component item.contract) 0
-    → (s : SubId) (b : ComponentId) (e : ContractId) → sub_component spec item.component s ≡ Some b → (n : ℕ)
-    → slice_get item.parts n ≡ Some (s, e)
+    → (s : SubId) (b : ComponentId) (e : ContractId) → IsListedHere spec item s b e
     → Holds (w (s ∷ p)) (assumption spec b e) 0
-step_down spec w k pre up p c d item r by x s b e f n at =
+step_down spec w k pre up p c d item r by x s b e listed =
     let sys = pre.system in
     let here : IsInstance spec p item.component = rw by.component (reached_instance spec k p c d r) in
     let a = own_same spec w sys p item.component here (assumption spec item.component item.contract)
     (assumption_reads spec sys.well item.component item.contract) in
-    let g = sub_same spec w sys p item.component here s b f (assumption spec b e) (assumption_reads spec sys.well b e) in
+    let g = sub_same spec w sys p item.component here s b listed.component (assumption spec b e) (assumption_reads spec sys.well b e) in
     let valid = pre.valid p c d r item by in
     sys.stable (w (s ∷ p)) (assumption spec b e) 0 (λ no.
-    valid.assumed n (s, e) at (around spec w p item.component) (typed_around spec w p item.component here sys.trace) (
+    valid.assumed listed.place (s, e) listed.at (around spec w p item.component) (typed_around spec w p item.component here sys.trace) (
       a.0 x,
       meets_append _ _ _
           (meets_filter _ (listed_normal_form spec item) (is_of_another_sub (s, e)) item.parts
@@ -240,7 +245,7 @@ step_down spec w k pre up p c d item r by x s b e f n at =
     )) where
       part_same : Holds (around spec w p item.component) (listed_assumption spec item (s, e)) 0
           → Holds (around spec w p item.component) (substituted (readings spec item.component (Some s)) (assumption spec b e)) 0
-      part_same y = rw f at y
+      part_same y = rw listed.component at y
 
 assumptions : (spec : Spec) (w : Path → Trace) (k : ContractId) → Premises spec w k
     → ((p : Path) (c : ComponentId) (d : ContractId) → IsReached spec k p c d → HasNormalForm spec w p c d)
@@ -252,7 +257,7 @@ assumptions spec w k pre up x (s ∷ p) b e r =
     let by = r.4.1 in
     let above = assumptions spec w k pre up x p r.0 r.1 r.2 in
     step_down spec w k pre up p r.0 r.1 item r.2 by
-    (rw (by.component, by.contract) above) s b e (rw by.component r.3) r.4.2 r.4.3
+    (rw (by.component, by.contract) above) s b e (record { component = rw by.component r.3; place = r.4.2; at = r.4.3 })
 
 pub contracts_compose : TruthIsStable → SubstitutionKeepsTruth → ContractsCompose
 contracts_compose stable keeps spec k well valid w trace leaves x =

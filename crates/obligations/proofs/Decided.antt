@@ -37,7 +37,8 @@ use Rattle.typed_ltl.specs.declared.lasso.Verdict.{Verdict}
 use Rattle.obligations.specs.Verdicts.{OnePositionDecides, LevelsAreDecided, IsVerdict, AreAssumesVerdicts}
 use Rattle.obligations.proofs.Among.{Among, among_append_left, among_append_right, among_map, below_length}
 use Rattle.obligations.proofs.Composed.{assumption_reads, guarantee_reads}
-use Rattle.obligations.proofs.Valued.{WiresArePropositional, substituted_truth, substituted_propositional, propositional_reading, own_gives, sub_gives, table_values}
+use Rattle.obligations.proofs.Valued.{WiresArePropositional, substituted_truth, substituted_propositional, propositional_reading, own_gives, sub_gives}
+use Rattle.obligations.proofs.Valued.{table_values}
 use Rattle.obligations.proofs.Valued.{state_from}
 
 -- From the table to the questions, and from valuations to traces.

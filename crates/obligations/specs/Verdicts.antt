@@ -46,7 +46,8 @@ pub record OnePositionDecides (spec : Spec) (item : Item) (q : Question) : Type 
 -- each listed contract
 abbrev pub IsDecidedLevel : Spec → Item → Type 0
 IsDecidedLevel spec item = OnePositionDecides spec item (entails spec item)
-    × ((n : ℕ) (part : Part) → slice_get item.parts n ≡ Some part → OnePositionDecides spec item (assumes spec item part))
+    × ((n : ℕ) (part : Part) → slice_get item.parts n ≡ Some part
+    → OnePositionDecides spec item (assumes spec item part))
 
 -- The questions of a level over truth values are decided at one position.
 abbrev pub LevelsAreDecided : Type 0

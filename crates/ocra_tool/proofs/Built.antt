@@ -1,5 +1,6 @@
 -- The levels of a decided specification are over truth values.
-use Rattle.std.proofs.Common.{◌≡◌, ℕ, zero, suc, Bool, true, false, ◌&&◌, ◌||◌, not, List, [], ◌∷◌, map, filter_map, length, nat_eq, eqb, slice_get, Option, Some, None}
+use Rattle.std.proofs.Common.{◌≡◌, ℕ, zero, suc, Bool, true, false, ◌&&◌, ◌||◌, not, List, [], ◌∷◌, map, filter_map, length, nat_eq, eqb, slice_get, Option}
+use Rattle.std.proofs.Common.{Some, None}
 use Rattle.std.proofs.Common.{IfSome, option_map, refl, sym, ap, subst, ◌∙◌}
 use Rattle.std.proofs.lemmas.Bool.{false≢true, eqb-true}
 use Rattle.std.specs.List.{list_all}
@@ -22,7 +23,8 @@ use Rattle.spec_names.specs.NamesFaults.{parts_at}
 use Rattle.spec_types.specs.Typing.{Typed, PortReading, ExpressionReading, formula_in, port_as, read_name, typed_of}
 use Rattle.spec_types.specs.Typing as typed
 use Rattle.spec_types.specs.TreeComponents.{type_of, typed_port, own_ports, kind_at, port_meant, reading_in, contract_reading, connection_reading}
-use Rattle.spec_types.specs.TreeComponents.{own_reading, no_reading, own_free_reading, sub_free_reading, tree_contract, tree_contracts, typed_source, tree_wire, tree_wires}
+use Rattle.spec_types.specs.TreeComponents.{own_reading, no_reading, own_free_reading, sub_free_reading, tree_contract, tree_contracts, typed_source, tree_wire}
+use Rattle.spec_types.specs.TreeComponents.{tree_wires}
 use Rattle.spec_model.specs.declared.spec.Spec.{Spec}
 use Rattle.spec_model.specs.declared.spec.Component as spec
 use Rattle.spec_model.specs.declared.item.Item.{Item}

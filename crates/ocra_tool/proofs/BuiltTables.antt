@@ -1,5 +1,6 @@
 -- What the tables tell by which it is seen whether a specification is decided.
-use Rattle.std.proofs.Common.{◌≡◌, ℕ, zero, suc, Bool, true, false, ◌&&◌, ◌||◌, not, List, [], ◌∷◌, map, filter_map, get_or, slice_get, Option, Some, None, option_map}
+use Rattle.std.proofs.Common.{◌≡◌, ℕ, zero, suc, Bool, true, false, ◌&&◌, ◌||◌, not, List, [], ◌∷◌, map, filter_map, get_or, slice_get, Option, Some, None}
+use Rattle.std.proofs.Common.{option_map}
 use Rattle.std.proofs.Common.{refl, sym, ap, ◌∙◌}
 use Rattle.std.proofs.lemmas.Bool.{false≢true}
 use Rattle.std.proofs.lemmas.List.Folds.{list_all-map}
@@ -19,7 +20,8 @@ use Rattle.spec_model.specs.declared.spec.Component.{Component}
 use Rattle.spec_model.specs.declared.spec.Spec.{Spec}
 use Rattle.spec_model.specs.declared.sub.Sub.{Sub}
 use Rattle.spec_model.specs.Architecture.{subs_of, sub_component}
-use Rattle.ocra_tool.specs.NotBuilt.{written_contract, is_plain_pair, has_plain_contract, has_plain_part, has_plain_formulas, has_plain_source, has_plain_sources}
+use Rattle.ocra_tool.specs.NotBuilt.{written_contract, is_plain_pair, has_plain_contract, has_plain_part, has_plain_formulas, has_plain_source}
+use Rattle.ocra_tool.specs.NotBuilt.{has_plain_sources}
 use Rattle.ocra_tool.specs.NotBuilt.{has_boolean_ports, sees_boolean_ports, has_no_item}
 use Rattle.ocra_tool.specs.BuiltTables.{is_boolean_port, has_boolean, sub_flag, sees_flags, has_plain_item, plain_flag, item_flag, component_flags, row_flag}
 use Rattle.ocra_tool.specs.BuiltTables.{row_part, row_item}

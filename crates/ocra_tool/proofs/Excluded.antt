@@ -1,7 +1,8 @@
 use Rattle.std.specs.Prelude.{if◌then◌else◌}
 use Rattle.std.specs.List.{list_any}
 use Rattle.oss_io.specs.Outside.{Rose}
-use Rattle.std.proofs.Common.{Bool, true, false, true≢false, rules, ◌≡◌, ℕ, ◌<◌, ◌≤◌, ◌⊎◌, List, length, Option, Some, None, Result, Ok, Err, IfOk, IfErr, IfSome, option_map}
+use Rattle.std.proofs.Common.{Bool, true, false, true≢false, rules, ◌≡◌, ℕ, ◌<◌, ◌≤◌, ◌⊎◌, List, length, Option, Some, None, Result, Ok, Err, IfOk, IfErr}
+use Rattle.std.proofs.Common.{IfSome, option_map}
 use Rattle.std.proofs.Common.{refl, subst, sym, ap, ◌∙◌, arith}
 use Rattle.std.proofs.Math.Logic.{inl, inr}
 use Rattle.oss_base.specs.declared.fault.Fault.{Fault}

@@ -16,7 +16,8 @@ use Rattle.spec_model.specs.declared.spec.Component.{Component}
 use Rattle.spec_model.specs.declared.spec.Spec.{Spec}
 use Rattle.spec_model.specs.declared.sub.Sub.{Sub}
 use Rattle.spec_model.specs.Architecture.{sub_component, free_targets}
-use Rattle.ocra_tool.specs.NotBuilt.{is_boolean_kind, has_plain_source, written_contract, is_plain_pair, most_free_ports}
+use Rattle.ocra_tool.specs.NotBuilt.{is_boolean_kind, has_plain_source, written_contract, is_plain_pair}
+use Rattle.ocra_tool.specs.NotBuilt.{most_free_ports}
 
 abbrev pub is_boolean_port : OwnPort → Bool
 is_boolean_port port = is_boolean_kind port.kind

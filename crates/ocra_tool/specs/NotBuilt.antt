@@ -1,7 +1,8 @@
 -- What `check` does not decide yet. It tries all valuations of the free ports of the system (truth tables: E. L. Post,
 -- Introduction to a general theory of elementary propositions, 1921), so it wants levels over truth values, of the
 -- system alone, with few free ports. Components that no refined contract speaks of may have any ports and formulas.
-use Rattle.std.specs.Prelude.{ℕ, Bool, true, false, ◌&&◌, ◌||◌, nat_eq, nat_le, List, [], ◌∷◌, length, filter_map, Option}
+use Rattle.std.specs.Prelude.{ℕ, Bool, true, false, ◌&&◌, ◌||◌, nat_eq, nat_le, List, [], ◌∷◌, length, filter_map}
+use Rattle.std.specs.Prelude.{Option}
 use Rattle.std.specs.Prelude.{Some, None, slice_get}
 use Rattle.std.specs.List.{list_all}
 use Rattle.std.specs.Option.{option_map_or}

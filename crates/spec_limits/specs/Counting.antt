@@ -6,7 +6,7 @@ use Rattle.oss_base.specs.Limits.{most_instances}
 use Rattle.oss_base.specs.declared.sites.FaultSite.{FaultSite}
 use Rattle.oss_syntax.specs.declared.component.TreeComponent.{TreeComponent}
 use Rattle.oss_syntax.specs.declared.refinement.RefinementItem.{RefinementItem}
-use Rattle.oss_syntax.specs.Trees.{Component, component_tree, refinement_item_tree}
+use Rattle.oss_syntax.specs.Trees.{component_tree, refinement_item_tree}
 use Rattle.spec_names.specs.declared.refinements.RefinementTables.{RefinementTables}
 use Rattle.spec_names.specs.Scopes.{refinement_parts}
 use Rattle.spec_limits.specs.LimitFaults.{parts_past}

@@ -1,4 +1,5 @@
--- Serves proofs only: how a table keeps the targets of connections, as pairs of numbers, and a free port as it is shown.
+-- Serves proofs only: how a table keeps the targets of connections, as pairs of numbers, and a free port as it is
+-- shown.
 
 use Rattle.std.specs.Prelude.{ℕ, ◌+◌, Bool, not, nat_eq, ◌&&◌, List, Option, option_map}
 use Rattle.std.specs.List.{list_any}

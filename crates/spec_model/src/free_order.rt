@@ -1,7 +1,8 @@
 //! The free order of a component as a table that finds the place of a port by binary search:
 //! `FreeOrder::place`, and counts the free ports: `FreeOrder::count`. It touches nothing outside.
 
-ghost use Rattle.std.specs.Prelude.{◌≡◌, ℕ, ◌+◌, ◌<◌, ◌^◌, ◌++◌, [], ◌∷◌, filter_map, length, nat_eq, position, slice_get};
+ghost use Rattle.std.specs.Prelude.{◌≡◌, ℕ, ◌+◌, ◌<◌, ◌^◌, ◌++◌, [], ◌∷◌, filter_map, length, nat_eq, position};
+ghost use Rattle.std.specs.Prelude.{slice_get};
 ghost use Rattle.std.specs.Prelude.{sum, IfOk, OnOk};
 ghost use Rattle.std.specs.List.{cons_option, list_any};
 ghost use Rattle.spec_model.specs.Architecture.{same_target};

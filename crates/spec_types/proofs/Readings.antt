@@ -1,12 +1,11 @@
 -- What the tables of names tell is what the names of a text mean.
 
-use Rattle.std.proofs.Common.{◌≡◌, ℕ, zero, suc, ◌+◌, ◌<◌, ◌≤◌, Bool, true, false, not, cond, ltb, List, [], ◌∷◌, map, length, slice_get, position, Option, Some, None, option_map, option_and_then, is_some, ◌⊎◌, inl, inr, refl, sym, ap, subst, ◌∙◌, arith, if◌then◌else◌}
-use Rattle.std.proofs.lemmas.Bool.{false≢true, ltb-true}
+use Rattle.std.proofs.Common.{◌≡◌, ℕ, zero, suc, ◌<◌, Bool, true, false, not, cond, ltb, List, [], ◌∷◌, length, slice_get, position, Option, Some, None}
+use Rattle.std.proofs.Common.{option_map, option_and_then, is_some, ◌⊎◌, inl, inr, refl, sym, ap, subst, ◌∙◌, arith, if◌then◌else◌}
+use Rattle.std.proofs.lemmas.Bool.{ltb-true}
 use Rattle.std.proofs.lemmas.Option.{none-some, same_Some, slice_get-map}
 use Rattle.std.specs.Option.{option_map_or}
 use Rattle.std.specs.List.{position_or_len}
-use Rattle.oss_base.specs.declared.ids.SubId.{SubId}
-use Rattle.oss_syntax.specs.declared.words.Word.{Word}
 use Rattle.oss_syntax.specs.declared.refinement.TargetTree.{TargetTree}
 use Rattle.oss_syntax.specs.declared.refinement.TargetTree.TheVariants as targets
 use Rattle.oss_syntax.specs.Trees.{Item, RefinementItemTree, Component}
@@ -14,13 +13,19 @@ use Rattle.port_types.specs.declared.types.PortType.{PortType}
 use Rattle.port_types.specs.declared.types.PortType.TheVariants as kind
 use Rattle.spec_model.specs.declared.wire.Target.{Target}
 use Rattle.spec_model.specs.Architecture.{target}
-use Rattle.spec_names.specs.Scopes.{is_named, PortDeclaration, port_declarations, port_place, has_direction, directed_place, directed_port, enumerator_if, is_enumerator, sees_enumerator, SubDeclaration, sub_declarations, sub_place, component_place, declared_interface, interface_at, sub_interface_at, refinement_parts, NameMeaning, port_or, sub_port, target_meaning, contract_scope, connection_scope}
+use Rattle.spec_names.specs.Scopes.{is_named, PortDeclaration, port_declarations, port_place, has_direction, directed_place, directed_port, enumerator_if}
+use Rattle.spec_names.specs.Scopes.{is_enumerator, sees_enumerator, SubDeclaration, sub_declarations, sub_place, component_place, declared_interface}
+use Rattle.spec_names.specs.Scopes.{interface_at, sub_interface_at, refinement_parts, NameMeaning, port_or, sub_port, target_meaning, contract_scope}
+use Rattle.spec_names.specs.Scopes.{connection_scope}
 use Rattle.spec_names.specs.Scopes as names
 use Rattle.spec_names.specs.Tables.{entry_place}
-use Rattle.spec_types.specs.Typing.{PortReading, ExpressionReading}
-use Rattle.spec_types.specs.TreeComponents.{type_of, typed_port, own_ports, kind_at, port_meant, own_reading, no_reading, own_free_reading, sub_free_reading, free_order, free_number, target_of_meaning, tree_target, target_kind, target_kind_of}
+use Rattle.spec_types.specs.Typing.{PortReading}
+use Rattle.spec_types.specs.TreeComponents.{type_of, typed_port, own_ports, kind_at, port_meant, own_reading, no_reading, own_free_reading, sub_free_reading}
+use Rattle.spec_types.specs.TreeComponents.{free_order, free_number, target_of_meaning, tree_target, target_kind, target_kind_of}
 use Rattle.spec_types.specs.TreeComponents as tree
-use Rattle.spec_types.specs.Walks.{Placed, Interface, placed_at, find_port, Refinement, component_ports, sub_interface_by, PlacedInSub, placed_in, placed_in_sub, find_sub_port, own_port_read, same_direction, free_port_read, free_sub_port, directed_target, placed_target, target_by, directed_kind, kind_by, ArePortsOf, AreAllPorts, IsSeenBy}
+use Rattle.spec_types.specs.Walks.{Placed, Interface, placed_at, find_port, Refinement, component_ports, sub_interface_by, PlacedInSub, placed_in}
+use Rattle.spec_types.specs.Walks.{placed_in_sub, find_sub_port, own_port_read, same_direction, free_port_read, free_sub_port, directed_target, placed_target}
+use Rattle.spec_types.specs.Walks.{target_by, directed_kind, kind_by, ArePortsOf, AreAllPorts, IsSeenBy}
 use Rattle.spec_types.specs.Walks as code
 
 -- positions

@@ -2,12 +2,10 @@
 
 use Rattle.std.proofs.Common.{◌≡◌, List, [], ◌∷◌, map, ap, sym, refl, ◌∙◌}
 use Rattle.oss_syntax.specs.Trees.{Component}
-use Rattle.spec_model.specs.declared.contract.Contract.{Contract}
-use Rattle.spec_model.specs.declared.wire.Wire.{Wire}
-use Rattle.spec_model.specs.Meanings.{ContractMeaning, contract_meaning, WireMeaning, wire_meaning}
+use Rattle.spec_model.specs.Meanings.{contract_meaning, wire_meaning}
 use Rattle.spec_model.proofs.MadeAgain.{contract_from, contract_again, wire_from, wire_again}
 use Rattle.spec_types.specs.declared.components.TypedComponents.{TypedComponents}
-use Rattle.spec_types.specs.TreeComponents.{contract_lists, wire_lists, AreTyped}
+use Rattle.spec_types.specs.TreeComponents.{AreTyped}
 
 map_again : {A B : Type 0} (f : A → B) (g : B → A) → ((x : A) → g (f x) ≡ x) → (xs : List A) → map g (map f xs) ≡ xs
 map_again f g again [] = refl

@@ -1,8 +1,8 @@
 -- What the tables give is what the components of a text stand for.
 
-use Rattle.std.proofs.Common.{◌≡◌, ℕ, List, [], ◌∷◌, ◌++◌, map, filter_map, length, slice_get, Option, Some, None, option_map, refl, sym, ap, ◌∙◌}
+use Rattle.std.proofs.Common.{◌≡◌, ℕ, List, [], ◌∷◌, ◌++◌, map, filter_map, length, Option, Some, None, option_map, refl, sym, ap, ◌∙◌}
 use Rattle.std.proofs.lemmas.List.{length-map}
-use Rattle.std.specs.List.{flat_map, zip, position_or_len}
+use Rattle.std.specs.List.{flat_map, zip}
 use Rattle.std.specs.Option.{option_map_or}
 use Rattle.oss_base.specs.declared.sites.FaultSite.{FaultSite}
 use Rattle.oss_syntax.specs.declared.interface.InterfaceItem.{InterfaceItem}
@@ -11,26 +11,28 @@ use Rattle.oss_syntax.specs.declared.refinement.RefinementItem.{RefinementItem}
 use Rattle.oss_syntax.specs.declared.refinement.RefinementItem.TheVariants as refinement
 use Rattle.oss_syntax.specs.declared.component.TreeComponent.{TreeComponent}
 use Rattle.oss_syntax.specs.Trees.{item_tree, refinement_item_tree, Component, component_tree, component_trees, RefinementItemTree}
-use Rattle.port_types.specs.declared.types.PortType.{PortType}
-use Rattle.spec_model.specs.declared.port.OwnPort.{OwnPort}
 use Rattle.spec_model.specs.declared.wire.Target.{Target}
 use Rattle.spec_model.specs.FreeRows.{free_among}
 use Rattle.spec_names.specs.declared.interfaces.InterfaceTables.{InterfaceTables}
 use Rattle.spec_names.specs.declared.refinements.RefinementTables.{RefinementTables}
-use Rattle.spec_names.specs.Scopes.{is_named, port_declarations, SubDeclaration, sub_declarations, refinement_parts, component_place, declared_interface, interface_at}
+use Rattle.spec_names.specs.Scopes.{is_named, port_declarations, SubDeclaration, sub_declarations, refinement_parts, component_place, declared_interface}
+use Rattle.spec_names.specs.Scopes.{interface_at}
 use Rattle.spec_names.specs.Directory.{AreInterfaces}
 use Rattle.spec_names.specs.Directory.{AreRefinements}
 use Rattle.spec_types.specs.Typing.{ExpressionReading}
-use Rattle.spec_model.specs.Meanings.{ContractMeaning, WireMeaning}
-use Rattle.spec_types.specs.TreeComponents.{typed_port, own_ports, interface_item_faults, contract_faults, refinement_item_faults, connection_faults, tree_contract, tree_contracts, tree_wire, tree_wires, tree_target, target_kind_of, driven_target, sub_port_counts, free_order}
+use Rattle.spec_model.specs.Meanings.{WireMeaning}
+use Rattle.spec_types.specs.TreeComponents.{typed_port, own_ports, interface_item_faults, contract_faults, refinement_item_faults, connection_faults}
+use Rattle.spec_types.specs.TreeComponents.{tree_contract, tree_contracts, tree_wire, tree_wires, tree_target, target_kind_of, driven_target, sub_port_counts}
+use Rattle.spec_types.specs.TreeComponents.{free_order}
 use Rattle.spec_types.specs.TreeComponents as tree
 use Rattle.spec_types.specs.Making.{contract_in, item_faults_by, targets_in, wire_in, wire_faults_by}
-use Rattle.spec_types.specs.Tables.{interface_by, contracts_by, contract_faults_by, scope_port_count, order_by, wires_by, wire_faults_in, written_items, seen_by, wires_of_pair, wire_faults_of_pair}
+use Rattle.spec_types.specs.Tables.{interface_by, contracts_by, contract_faults_by, scope_port_count, order_by, wires_by, wire_faults_in, written_items}
+use Rattle.spec_types.specs.Tables.{seen_by, wires_of_pair, wire_faults_of_pair}
 use Rattle.spec_types.specs.Walks.{Interface, Refinement, component_ports, target_by, kind_by, ArePortsOf, AreAllPorts, IsSeenBy}
 use Rattle.spec_types.specs.Walks as code
 use Rattle.spec_types.proofs.Making.{filter_map-map, flat_map-map}
 use Rattle.spec_types.proofs.Zips.{map_of_map}
-use Rattle.spec_types.proofs.Readings.{contract_reading_is, connection_reading_is, target_is, target_kind_is, position-within, there, Standing, standing}
+use Rattle.spec_types.proofs.Readings.{contract_reading_is, connection_reading_is, target_is, target_kind_is, position-within, there, standing}
 
 -- ports
 

@@ -4,7 +4,7 @@ use Rattle.std.specs.Prelude.{ℕ, List, [], Option, Some, None, option_map}
 use Rattle.oss_syntax.specs.declared.interface.InterfaceItem.{InterfaceItem}
 use Rattle.oss_syntax.specs.declared.interface.InterfaceItem.TheVariants as interface
 use Rattle.oss_syntax.specs.Trees.{item_tree}
-use Rattle.spec_names.specs.Scopes.{PortDeclaration, port_declaration}
+use Rattle.spec_names.specs.Scopes.{port_declaration}
 use Rattle.oss_base.specs.declared.sites.FaultSite.{FaultSite}
 use Rattle.spec_model.specs.declared.port.OwnPort.{OwnPort}
 use Rattle.oss_syntax.specs.declared.refinement.TargetTree.{TargetTree}
@@ -17,7 +17,8 @@ use Rattle.spec_types.specs.Typing.{ExpressionReading, typed_of, formula_in}
 use Rattle.spec_types.specs.TypeFaults.{source_faults}
 use Rattle.spec_types.specs.Uses.{expression_uses}
 use Rattle.spec_model.specs.Meanings.{ContractMeaning, WireMeaning}
-use Rattle.spec_types.specs.TreeComponents.{typed_port, range_faults, interface_item_faults, tree_contract, typed_source}
+use Rattle.spec_types.specs.TreeComponents.{typed_port, range_faults, interface_item_faults, tree_contract}
+use Rattle.spec_types.specs.TreeComponents.{typed_source}
 
 abbrev pub port_in : InterfaceItem → Option OwnPort
 port_in item = option_map typed_port (port_declaration (item_tree item))

@@ -1,6 +1,6 @@
 -- Serves proofs only: what the tables of the names of a text tell.
 
-use Rattle.std.specs.Prelude.{ℕ, List, [], ◌∷◌, length, map, filter_map, Option, Some, None}
+use Rattle.std.specs.Prelude.{ℕ, List, [], length, map, filter_map, Option, Some, None}
 use Rattle.std.specs.List.{flat_map}
 use Rattle.std.specs.Option.{option_map_or}
 use Rattle.oss_syntax.specs.declared.refinement.RefinementItem.{RefinementItem}
@@ -18,7 +18,8 @@ use Rattle.spec_types.specs.Typing.{ExpressionReading}
 use Rattle.spec_model.specs.Meanings.{ContractMeaning, contract_meaning, WireMeaning, wire_meaning}
 use Rattle.spec_types.specs.TreeComponents.{own_ports, range_faults_in}
 use Rattle.spec_types.specs.Making.{contract_in, item_faults_by, targets_in, wire_in, wire_faults_by}
-use Rattle.spec_types.specs.Walks.{Interface, Refinement, component_ports, contract_reading_by, connection_reading_by, target_by, kind_by}
+use Rattle.spec_types.specs.Walks.{Interface, Refinement, component_ports, contract_reading_by, connection_reading_by}
+use Rattle.spec_types.specs.Walks.{target_by, kind_by}
 
 -- both of two, if they are there
 abbrev pub both : {A B : Type 0} → Option A → Option B → Option (A × B)

@@ -2,10 +2,10 @@
 -- with typed expressions, and where their types do not fit (components, contracts and their refinement: Cimatti and
 -- Tonetta, Contracts-refinement proof system for component-based embedded systems, 2015).
 
-use Rattle.std.specs.Prelude.{◌≡◌, ℕ, ℤ, pos, neg_ℤ, Bool, true, false, ◌++◌, List, [], ◌∷◌, length, map, filter_map, Option, Some, None, unwrap_or, option_map, position, slice_get, int_le}
+use Rattle.std.specs.Prelude.{◌≡◌, ℕ, ℤ, pos, neg_ℤ, Bool, true, false, ◌++◌, List, [], ◌∷◌, length, map, filter_map}
+use Rattle.std.specs.Prelude.{Option, Some, None, unwrap_or, option_map, position, slice_get, int_le}
 use Rattle.std.specs.Option.{option_map_or}
 use Rattle.std.specs.List.{flat_map}
-use Rattle.oss_base.specs.declared.ids.SubId.{SubId}
 use Rattle.oss_base.specs.declared.fault.FaultKind.TheVariants as kinds
 use Rattle.port_types.specs.declared.types.PortType.{PortType}
 use Rattle.port_types.specs.declared.types.PortType.TheVariants as kind
@@ -14,18 +14,19 @@ use Rattle.oss_syntax.specs.declared.types.BoundTree.{BoundTree}
 use Rattle.oss_syntax.specs.declared.types.TypeTree.{TypeTree}
 use Rattle.oss_syntax.specs.declared.types.TypeTree.TheVariants as types
 use Rattle.oss_syntax.specs.declared.refinement.TargetTree.{TargetTree}
-use Rattle.oss_syntax.specs.Expressions.{Tree}
 use Rattle.oss_syntax.specs.Trees.{Item, Port, RefinementItemTree, Sub, Connection, Refined, Component}
 use Rattle.oss_syntax.specs.Trees as trees
 use Rattle.spec_model.specs.declared.port.OwnPort.{OwnPort}
-use Rattle.spec_model.specs.declared.contract.Uses.{Uses}
 use Rattle.spec_model.specs.declared.contract.Contract.{Contract}
 use Rattle.spec_model.specs.declared.wire.Target.{Target}
 use Rattle.spec_model.specs.declared.wire.Wire.{Wire}
 use Rattle.spec_model.specs.Architecture.{target, same_target}
-use Rattle.spec_model.specs.Meanings.{ContractMeaning, contract_meaning, SourceMeaning, TruthSource, NumberSource, ChoiceSource, WireMeaning, wire_meaning}
+use Rattle.spec_model.specs.Meanings.{ContractMeaning, contract_meaning, SourceMeaning, TruthSource, NumberSource}
+use Rattle.spec_model.specs.Meanings.{ChoiceSource, WireMeaning, wire_meaning}
 use Rattle.spec_model.specs.FreeRows.{free_among}
-use Rattle.spec_names.specs.Scopes.{PortDeclaration, port_declarations, SubDeclaration, sub_declarations, refinement_parts, sub_interface_at, NameMeaning, Scope, target_meaning, contract_scope, connection_scope}
+use Rattle.spec_names.specs.Scopes.{PortDeclaration, port_declarations, SubDeclaration, sub_declarations}
+use Rattle.spec_names.specs.Scopes.{refinement_parts, sub_interface_at, NameMeaning, Scope, target_meaning}
+use Rattle.spec_names.specs.Scopes.{contract_scope, connection_scope}
 use Rattle.spec_names.specs.Scopes as names
 use Rattle.oss_base.specs.declared.sites.FaultSite.{FaultSite}
 use Rattle.oss_base.specs.Sites.{first_of}

@@ -1,6 +1,7 @@
 -- Serves proofs only: what the typed expressions and the ports of the code stand for.
 
-use Rattle.std.specs.Prelude.{◌≡◌, ℕ, Bool, true, false, not, Option, Some, None, option_map, option_and_then, cond, nat_eq, List, [], ◌∷◌, map, slice_get}
+use Rattle.std.specs.Prelude.{◌≡◌, ℕ, Bool, true, false, not, Option, Some, None, option_map, option_and_then, cond}
+use Rattle.std.specs.Prelude.{nat_eq, List, [], ◌∷◌, map, slice_get}
 use Rattle.oss_base.specs.declared.ids.SubId.{SubId}
 use Rattle.port_types.specs.declared.types.PortId.{PortId}
 use Rattle.port_types.specs.declared.types.PortType.{PortType}
@@ -26,7 +27,8 @@ use Rattle.spec_model.specs.declared.wire.Target.{Target}
 use Rattle.spec_model.specs.Architecture.{target}
 use Rattle.oss_syntax.specs.Trees.{Item, Component}
 use Rattle.spec_names.specs.Tables.{entry_place}
-use Rattle.spec_names.specs.Scopes.{SubDeclaration, sub_declarations, refinement_parts, port_place, sub_place, component_place}
+use Rattle.spec_names.specs.Scopes.{SubDeclaration, sub_declarations, refinement_parts, port_place, sub_place}
+use Rattle.spec_names.specs.Scopes.{component_place}
 use Rattle.spec_types.specs.TreeComponents.{own_ports, free_number}
 use Rattle.spec_types.specs.Typing.{PortReading, ExpressionReading, equality, at_most}
 use Rattle.spec_types.specs.Typing as specs

@@ -11,6 +11,22 @@ use spec_names::{Names, names_of};
 use std::alloc::Global;
 use std::test::Fail;
 
+/// Three enumerations of which tables are made: the first two share their last name alone.
+const LEFT: [&str; 17] = [
+    "l1", "l2", "l3", "l4", "l5", "l6", "l7", "l8", "l9", "l10", "l11", "l12", "l13", "l14", "l15",
+    "l16", "both",
+];
+
+const RIGHT: [&str; 17] = [
+    "r1", "r2", "r3", "r4", "r5", "r6", "r7", "r8", "r9", "r10", "r11", "r12", "r13", "r14", "r15",
+    "r16", "both",
+];
+
+const APART: [&str; 17] = [
+    "a1", "a2", "a3", "a4", "a5", "a6", "a7", "a8", "a9", "a10", "a11", "a12", "a13", "a14", "a15",
+    "a16", "none",
+];
+
 fn span(start: u32) -> Span {
     Span { start, end: start }
 }
@@ -26,6 +42,14 @@ fn enumeration(alloc: Global, first: &str, second: &str) -> Result<TypeTree, NoM
     let mut words = Words::new(alloc);
     words.push(word(alloc, first, 1)?)?;
     words.push(word(alloc, second, 2)?)?;
+    Ok(TypeTree::Enum(words))
+}
+
+fn long_enumeration(alloc: Global, names: &[&str]) -> Result<TypeTree, NoMemory> {
+    let mut words = Words::new(alloc);
+    for name in names {
+        words.push(word(alloc, name, 1)?)?;
+    }
     Ok(TypeTree::Enum(words))
 }
 
@@ -50,7 +74,13 @@ fn put_port(
     })
 }
 
-/// A boolean port `b`, a range `x`, and two enumerations `e` and `d` that share no name.
+fn put_long_ports(alloc: Global, interface: &mut InterfaceItems) -> Result<(), NoMemory> {
+    put_port(alloc, interface, "left", long_enumeration(alloc, &LEFT)?)?;
+    put_port(alloc, interface, "right", long_enumeration(alloc, &RIGHT)?)?;
+    put_port(alloc, interface, "apart", long_enumeration(alloc, &APART)?)
+}
+
+/// A boolean port `b`, a range `x`, two enumerations `e` and `d` that share no name, and three long ones.
 fn ports(alloc: Global) -> Result<InterfaceItems, NoMemory> {
     let mut interface = InterfaceItems::new(alloc);
     put_port(alloc, &mut interface, "b", TypeTree::Boolean)?;
@@ -71,6 +101,7 @@ fn ports(alloc: Global) -> Result<InterfaceItems, NoMemory> {
         "d",
         enumeration(alloc, "blue", "white")?,
     )?;
+    put_long_ports(alloc, &mut interface)?;
     Ok(interface)
 }
 
@@ -129,5 +160,13 @@ fn operands_that_do_not_fit(rt: HostRuntime) -> Result<(), Fail> {
     assert_eq!(rt; mismatch(alloc, "b", BinaryWord::Less, "3")?, 20);
     assert_eq!(rt; mismatch(alloc, "e", BinaryWord::NotEqual, "d")?, 20);
     assert_eq!(rt; mismatch(alloc, "x", BinaryWord::Plus, "3")?, 10);
+    Ok(())
+}
+
+#[test]
+fn long_enumerations(rt: HostRuntime) -> Result<(), Fail> {
+    let alloc = rt.alloc();
+    assert_eq!(rt; mismatch(alloc, "left", BinaryWord::Equal, "right")?, 0);
+    assert_eq!(rt; mismatch(alloc, "left", BinaryWord::Equal, "apart")?, 20);
     Ok(())
 }

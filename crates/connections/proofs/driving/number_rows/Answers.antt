@@ -12,6 +12,15 @@ loop-row-preserved c =
     let v = vacant_rows_push (take i rows) c.row-item.result in
     let z : 0 + vacant_rows (take i rows) ≡ vacant_rows (take i rows) = omega arith in
     record {
-      numbered = cc (t, d, z, c.in_ok-push.ensures.items, c.in_ok-drivers.ensures.drivers, c.as_slice.ensures, c.loop-row.invariant.numbered, c.loop-row.invariant.next);
+      numbered = cc (
+        t,
+        d,
+        z,
+        c.in_ok-push.ensures.items,
+        c.in_ok-drivers.ensures.drivers,
+        c.as_slice.ensures,
+        c.loop-row.invariant.numbered,
+        c.loop-row.invariant.next,
+      );
       next = cc (t, v, c.in_ok-drivers.ensures.next, c.as_slice.ensures, c.loop-row.invariant.next);
     }

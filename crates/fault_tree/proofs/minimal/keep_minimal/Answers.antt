@@ -6,7 +6,9 @@ use Rattle.minimal_sets.specs.Orders.{shortlex}
 use Rattle.fault_tree.specs.Keeping.{IsShortFirst, AreKeptOf, HasSmallerSubset}
 use Rattle.fault_tree.proofs.KeepingLaws.{IsNext, short_first, kept_minimal, next_of, next_kept, next_same, next_covered, kept_upto}
 use Rattle.fault_tree.proofs.minimal.keep_minimal.Goals as goal
-use Rattle.fault_tree.proofs.minimal.keep_minimal.Goals.{then-stands_after+then-not-has_smaller_subset+in_ok-copy_of+in_ok-push, else-stands_after, else-stands_after-via-then-stands_after+else-not-has_smaller_subset, else-stands_after-via-else-stands_after}
+use Rattle.fault_tree.proofs.minimal.keep_minimal.Goals.{then-stands_after+then-not-has_smaller_subset+in_ok-copy_of+in_ok-push, else-stands_after}
+use Rattle.fault_tree.proofs.minimal.keep_minimal.Goals.{else-stands_after-via-then-stands_after+else-not-has_smaller_subset}
+use Rattle.fault_tree.proofs.minimal.keep_minimal.Goals.{else-stands_after-via-else-stands_after}
 
 -- the last of some sets stands before s
 abbrev LastBefore : List ℕ → List (List ℕ) → Type 0

@@ -6,5 +6,5 @@ returns-in-None c = system_none c.args.components.now c.system_of.result c.args.
 
 pub returns-in-Some : goal.returns-in-Some
 returns-in-Some c =
-    system_noted c.args.components.now c.system_of.result c.in-Some.place c.args.first.now c.note_instances.new.first c.note_instances.result c.system_of.ensures
-    c.in-Some.is c.note_instances.ensures
+    system_noted c.args.components.now c.system_of.result c.in-Some.place c.args.first.now c.note_instances.new.first c.note_instances.result
+    c.system_of.ensures c.in-Some.is c.note_instances.ensures

@@ -1,4 +1,4 @@
-use Rattle.std.proofs.Common.{◌≡◌, ◌∙◌, ap, sym, map, option_map, rules}
+use Rattle.std.proofs.Common.{◌∙◌, ap, sym, map, option_map}
 use Rattle.std.proofs.lemmas.Option.{slice_get-map}
 use Rattle.std.specs.List.{zip}
 use Rattle.spec_types.specs.Walks as walks
@@ -16,7 +16,8 @@ loop-place-preserved c =
           (both_are tables.contracts_by _ _ _ _ _ c.in_ok-put_contracts.ensures.contracts c.at-component.ensures ports) c.loop-place.invariant.made;
       noted = noted_both_more tables.contract_faults_by (zip c.args.components.now (map walks.interface c.args.scopes.now)) c.args.first.now c.loop-place.first
           c.put_contracts.new.first c.loop-place.place _
-          (zip_at c.args.components.now (map walks.interface c.args.scopes.now) c.loop-place.place ∙ (λ j. tables.both (sym c.at-component.ensures j) (sym ports j)))
+          (zip_at c.args.components.now (map walks.interface c.args.scopes.now) c.loop-place.place
+          ∙ (λ j. tables.both (sym c.at-component.ensures j) (sym ports j)))
           c.in_ok-put_contracts.ensures.first c.loop-place.invariant.noted;
     }
 

@@ -1,4 +1,4 @@
-use Rattle.std.proofs.Common.{◌≡◌, ◌∙◌, ap, map, rules}
+use Rattle.std.proofs.Common.{◌∙◌, ap, map}
 use Rattle.std.proofs.lemmas.List.{take_all}
 use Rattle.spec_types.specs.Tables as tables
 use Rattle.spec_types.proofs.Making.{mapped_more, noted_more, noted_all}

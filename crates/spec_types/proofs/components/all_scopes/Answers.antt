@@ -1,4 +1,4 @@
-use Rattle.std.proofs.Common.{◌≡◌, map, refl, arith}
+use Rattle.std.proofs.Common.{map}
 use Rattle.spec_types.specs.Walks as walks
 use Rattle.spec_types.specs.Tables as tables
 use Rattle.spec_types.proofs.Zips.{zipped_more, zipped_all, both_are}

@@ -1,4 +1,4 @@
-use Rattle.std.proofs.Common.{◌≡◌, ◌∙◌, ap, sym, map, option_map, length, ◌≤◌, arith, rules}
+use Rattle.std.proofs.Common.{◌∙◌, ap, sym, map, option_map, arith}
 use Rattle.std.proofs.lemmas.Option.{slice_get-map}
 use Rattle.std.specs.List.{zip}
 use Rattle.spec_types.specs.Walks as walks

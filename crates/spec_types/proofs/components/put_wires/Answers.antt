@@ -1,4 +1,4 @@
-use Rattle.std.proofs.Common.{◌≡◌, ◌∙◌, ap, sym, map, [], Some, option_map}
+use Rattle.std.proofs.Common.{◌∙◌, ap, sym, map, [], Some, option_map}
 use Rattle.std.specs.Option.{option_copied, option_map_or}
 use Rattle.spec_names.specs.Noting.{noted}
 use Rattle.spec_types.specs.Walks as walks

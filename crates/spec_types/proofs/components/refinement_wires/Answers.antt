@@ -1,13 +1,11 @@
-use Rattle.std.proofs.Common.{◌≡◌, ◌∙◌, ap, subst, map, filter_map, length, List, IfOk, OnOk}
+use Rattle.std.proofs.Common.{◌≡◌, ◌∙◌, subst, map, filter_map, length, List, IfOk, OnOk}
 use Rattle.spec_model.specs.Meanings as meanings
 use Rattle.std.specs.List.{flat_map}
 use Rattle.spec_model.specs.declared.wire.Target.{Target}
 use Rattle.spec_model.specs.FreeRows.{free_among}
 use Rattle.spec_names.specs.Noting.{noted}
-use Rattle.spec_types.specs.TreeComponents as specs
 use Rattle.spec_types.specs.Walks as walks
 use Rattle.spec_types.specs.Making as making
-use Rattle.spec_types.specs.Tables as facts
 use Rattle.spec_types.proofs.components.refinement_wires.Goals as goal
 
 pub returns-clause-wires : goal.returns-clause-wires

@@ -1,7 +1,6 @@
 use Rattle.std.proofs.Common.{◌≡◌, ◌∙◌, ap, sym, map, subst, List}
 use Rattle.std.specs.List.{flat_map, zip}
 use Rattle.oss_syntax.specs.Trees.{Component, component_tree, component_trees}
-use Rattle.oss_base.specs.declared.sites.FaultSite.{FaultSite}
 use Rattle.spec_names.specs.Noting.{noted}
 use Rattle.spec_types.specs.TreeComponents as specs
 use Rattle.spec_types.specs.Walks.{Interface, AreAllPorts}

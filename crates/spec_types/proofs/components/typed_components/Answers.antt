@@ -1,4 +1,4 @@
-use Rattle.std.proofs.Common.{◌≡◌, ◌∙◌, ap, sym, None}
+use Rattle.std.proofs.Common.{◌∙◌, ap, sym}
 use Rattle.oss_syntax.specs.Trees.{component_trees}
 use Rattle.spec_names.specs.Noting.{noted}
 use Rattle.spec_types.specs.TreeComponents as specs

@@ -1,8 +1,5 @@
-use Rattle.std.proofs.Common.{◌≡◌, map, rules}
+use Rattle.std.proofs.Common.{map}
 use Rattle.spec_model.specs.Meanings as meanings
-use Rattle.spec_types.specs.TreeComponents as specs
-use Rattle.spec_types.specs.Walks as walks
-use Rattle.spec_types.specs.Making as making
 use Rattle.spec_types.proofs.Making.{built_more, built_all, noted_more, noted_all}
 use Rattle.spec_types.proofs.connections.wires_of.Goals as goal
 

@@ -1,6 +1,5 @@
 use Rattle.std.specs.Prelude.{map}
 use Rattle.spec_model.specs.Meanings as meanings
-use Rattle.spec_types.specs.TreeComponents as specs
 use Rattle.spec_types.specs.Walks as walks
 use Rattle.spec_types.specs.Making as making
 use Rattle.spec_types.proofs.Making.{Built, Noted}

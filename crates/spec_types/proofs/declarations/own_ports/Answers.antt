@@ -1,4 +1,4 @@
-use Rattle.std.proofs.Common.{◌≡◌, ◌∙◌, ap, rules}
+use Rattle.std.proofs.Common.{◌∙◌, ap}
 use Rattle.spec_names.specs.Noting.{noted}
 use Rattle.spec_types.specs.Making as making
 use Rattle.spec_types.proofs.Making.{built_more, built_all, noted_more, noted_all, own_ports_are, ranges_are}

@@ -1,4 +1,4 @@
-use Rattle.std.proofs.Common.{◌≡◌, ◌∙◌, ◌++◌, sym, ap}
+use Rattle.std.proofs.Common.{◌≡◌, ◌∙◌, sym, ap}
 use Rattle.oss_syntax.specs.Expressions.{Tree, Prefix, Binary, tree}
 use Rattle.spec_names.specs.Noting.{noted}
 use Rattle.spec_types.specs.Typing as typing
