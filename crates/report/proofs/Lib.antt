@@ -1,4 +1,2 @@
 pub mod AllAnswers
-pub mod FreeNames
 pub mod Unique
-pub mod Zips

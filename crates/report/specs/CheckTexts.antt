@@ -13,8 +13,8 @@ use Rattle.obligations.specs.declared.name.ObligationName.TheVariants as obligat
 use Rattle.obligations.specs.Names.{component_name, obligation_text}
 use Rattle.report.specs.declared.answers.Answer.{Answer}
 use Rattle.report.specs.Answers.{is_proved, is_refuted, is_undecided}
-use Rattle.report.specs.FreeNames.{free_names}
-use Rattle.report.specs.LassoBlocks.{lasso_block}
+use Rattle.replay.specs.FreePortNames.{free_names}
+use Rattle.replay.specs.LassoBlocks.{lasso_block}
 
 abbrev pub obligation_item : ObligationName → ItemId
 obligation_item (obligation.Entails item) = item

@@ -1,6 +1,6 @@
 //! The report of a check.
 
-ghost use Rattle.std.specs.Prelude.{◌≡◌, ◌++◌, IfOk, OnOk, slice_get};
+ghost use Rattle.std.specs.Prelude.{◌≡◌, ◌++◌, IfOk, OnOk, decimal, slice_get};
 ghost use Rattle.std.specs.List.{flat_map, count_by};
 ghost use Rattle.report.specs.Answers.{is_proved, is_refuted, is_undecided};
 ghost use Rattle.report.specs.CheckTexts.{answer_text, check_text, obligation_component as component_by};
@@ -8,11 +8,11 @@ ghost use Rattle.report.specs.CheckTexts.{obligation_item as item_by, shown_lass
 ghost use Rattle.report.specs.CheckTexts.{verdict_word as word_of};
 
 use crate::answers::{Answer, Answers};
-use crate::free_ports::free_names;
-use crate::lasso_block::{append_lasso, append_number};
+use itoa::Buffer;
 use obligations::{ObligationName, component_name};
 use oss_base::{ComponentId, ItemId};
-use port_types::{NoMemory, Text};
+use port_types::{Name, NoMemory, Text};
+use replay::{free_names, write_lasso};
 use spec_model::Spec;
 use sqlite_items::at;
 use std::alloc::Global;
@@ -112,12 +112,22 @@ fn append_shown(
 {
     match verdict {
         Verdict::Refuted(lasso) => {
+            let component = Name::new(alloc, component_name(spec, c))?;
             let ports = free_names(alloc, spec, c)?;
-            append_lasso(text, component_name(spec, c), ports.as_slice(), lasso)
+            let block = write_lasso(alloc, &component, &ports, lasso)?;
+            text.append(block.as_slice())
         }
         Verdict::Proved => Ok(()),
         Verdict::Undecided => Ok(()),
     }
+}
+
+/// Puts a number at the end of a text.
+fn append_number(text: &mut Text, number: usize) -> Result<(), NoMemory>
+    ensures { OnOk result (text.new ≡ text.old ++ decimal number) }
+{
+    let mut buffer = Buffer::new();
+    text.append(buffer.format(number).as_bytes())
 }
 
 fn count(answers: &[Answer]) -> Totals

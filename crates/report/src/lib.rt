@@ -3,8 +3,6 @@
 
 mod answers;
 mod check_text;
-mod free_ports;
-mod lasso_block;
 mod laws;
 #[cfg(test)]
 mod tests;

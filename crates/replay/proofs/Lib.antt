@@ -1,0 +1,12 @@
+pub mod Zips
+pub mod Cutting
+pub mod Exclusion
+pub mod Numerals
+pub mod Positions
+pub mod NameTables
+pub mod Noting
+pub mod FreeTexts
+pub mod Blocks
+pub mod Spelling
+pub mod Assigning
+pub mod Printing

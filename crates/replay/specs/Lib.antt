@@ -1,0 +1,6 @@
+pub mod FreePortNames
+pub mod LassoBlocks
+pub mod TextLines
+pub mod LassoFiles
+pub mod Reading
+pub mod Laws
