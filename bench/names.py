@@ -88,6 +88,13 @@ def enumerations():
         yield f"CONTRACT c{first} assume: true; guarantee: " + " and ".join(f"v_{n} = v_{n + 1}" for n in pairs) + ";\n"
 
 
+def comparisons():
+    """50,000 comparisons with the last name of an enumeration of 50,000: nothing is kept between them, so this is slow."""
+    yield HEAD + "INPUT PORT v:{" + ",".join(f"e{n}" for n in range(50_000)) + "};\n"
+    for first in range(0, 50_000, 100):
+        yield f"CONTRACT c{first} assume: true; guarantee: " + "&".join(["v=e49999"] * 100) + ";\n"
+
+
 def operands():
     """One formula of 300,000 operands: too high."""
     yield HEAD + "INPUT PORT a: boolean;\nCONTRACT c assume: true; guarantee: "
@@ -105,7 +112,8 @@ def balanced():
     yield ";\n"
 
 
-CASES = (components, ports, subcomponents, connections, chain, doubling, enumerators, enumerations, operands, balanced)
+CASES = (components, ports, subcomponents, connections, chain, doubling, enumerators, enumerations, comparisons, operands,
+         balanced)
 
 
 def main():
