@@ -188,7 +188,7 @@ sub_blank_is spec c a (sub ∷ subs) h =
 
 -- which ports are free
 
-free_is : (ws : List Wire) (t : Target)
+pub free_is : (ws : List Wire) (t : Target)
     → is_none (find (λ (w : Wire). same_target w.target t) ws) ≡ is_none (first_wire ws t)
 free_is [] t = refl
 free_is (w ∷ ws) t = step (same_target w.target t) (find (λ (w : Wire). same_target w.target t) ws) (first_wire ws t) (free_is ws t) where
@@ -203,7 +203,7 @@ abbrev pub Fresh : Target → List Target → Type 0
 Fresh t [] = Unit {0}
 Fresh t (u ∷ us) = (same_target t u ≡ false) × Fresh t us
 
-place_step : (b f : Bool) (m n : ℕ) (u : Target) (xs : List Target) → b ≡ false → m ≡ n → cond (not b) (1 + m) 0 ≡ suc n
+pub place_step : (b f : Bool) (m n : ℕ) (u : Target) (xs : List Target) → b ≡ false → m ≡ n → cond (not b) (1 + m) 0 ≡ suc n
 place_step true f m n u xs e g = absurd (false≢true (sym e))
 place_step false f m n u xs e g = omega arith
 

@@ -3,3 +3,5 @@ pub mod States
 pub mod Substituted
 pub mod Rows
 pub mod Driven
+pub mod PortReadings
+pub mod Sizing

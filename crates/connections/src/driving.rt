@@ -7,9 +7,9 @@ ghost use Rattle.connections.specs.Drivers.{driver_rows};
 ghost use Rattle.connections.specs.Tables.{port_counts, blank, row_of as row_number, row_with_wire, rows_with_wire};
 ghost use Rattle.connections.specs.Tables.{rows_with_wires, vacant, vacant_rows, drivers_of_row, drivers_of_rows};
 
-use oss_base::ComponentId;
+use oss_base::{ComponentId, SubId};
 use port_types::NoMemory;
-use spec_model::{Spec, Target, Wire};
+use spec_model::{Spec, Wire};
 use sqlite_items::Items;
 use std::alloc::Global;
 
@@ -67,10 +67,11 @@ fn blank_rows(
     Ok(rows)
 }
 
-fn row_of(target: &Target) -> usize
-    ensures { result ≡ row_number target.now.sub }
+/// The row of the component itself, or of one of its subcomponents.
+pub(crate) fn row_of(sub: Option<SubId>) -> usize
+    ensures { result ≡ row_number sub }
 {
-    match target.sub {
+    match sub {
         None => 0,
         Some(sub) => sub.0 as usize + 1,
     }
@@ -100,7 +101,12 @@ fn note_wires(rows: &mut Vec<Items<Option<usize>>>, wires: &[Wire])
     ensures { rows.new.items ≡ rows_with_wires rows.old.items 0 wires.now }
 {
     for (i, wire) in wires.iter().enumerate() {
-        note_in(rows, row_of(&wire.target), wire.target.port.0 as usize, i);
+        note_in(
+            rows,
+            row_of(wire.target.sub),
+            wire.target.port.0 as usize,
+            i,
+        );
     }
 }
 

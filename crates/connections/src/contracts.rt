@@ -1,0 +1,34 @@
+//! The contracts of a component and of its subcomponents by their places: `contract_at`. It touches nothing
+//! outside.
+
+ghost use Rattle.std.specs.Prelude.{◌≡◌};
+ghost use Rattle.std.specs.Option.{option_copied};
+ghost use Rattle.connections.specs.LevelFormulas.{contracts_at as contracts_by, contract_at as contract_by};
+
+use oss_base::{ComponentId, ContractId, SubId};
+use spec_model::{Contract, Spec};
+use sqlite_items::at;
+
+fn contracts_at(spec: &Spec, c: ComponentId, sub: Option<SubId>) -> &[Contract]
+    ensures { result.now ≡ contracts_by spec.now c sub }
+{
+    match sub {
+        None => spec.contracts_of(c),
+        Some(sub) => match spec.sub_component(c, sub) {
+            Some(component) => spec.contracts_of(component),
+            None => &[],
+        },
+    }
+}
+
+/// A contract of the component itself, or of one of its subcomponents.
+pub(crate) fn contract_at(
+    spec: &Spec,
+    c: ComponentId,
+    sub: Option<SubId>,
+    contract: ContractId,
+) -> Option<&Contract>
+    ensures { option_copied result ≡ contract_by spec.now c sub contract }
+{
+    at(contracts_at(spec, c, sub), contract.0 as usize)
+}
