@@ -20,8 +20,8 @@ use Rattle.spec_types.specs.Typing.{PortReading}
 use Rattle.spec_types.specs.TreeComponents.{port_meant, target_of_meaning, tree_target, driven_target, sub_port_counts, free_order, own_free_reading, sub_free_reading}
 use Rattle.spec_types.specs.TreeComponents.{connection_reading}
 use Rattle.architecture.proofs.Listing.{Each, each_kept, each_more, none_passes}
-use Rattle.architecture.proofs.FreePorts.{own_among, sub_among, free_below}
-use Rattle.architecture.proofs.Readings.{IsBelow}
+use Rattle.architecture.proofs.FreePorts.{own_among, sub_among, free_at}
+use Rattle.architecture.proofs.Readings.{MeansOnly, IsBelow}
 
 -- the port at a place of an interface is there and has this direction
 abbrev pub points : Bool → List Item → ℕ → Bool
@@ -121,6 +121,54 @@ module _ (all : List Component) (c : Component) where
   one_driven (Connection target source) t h e = subst Driven (same_Some (tree_target all c target) t e) (target_driven target h)
   one_driven (Refined name listed) t h e = absurd (none-some t e)
 
+  -- what the names of a connection mean
+
+  module _ (Holds : PortReading → Type 0)
+      (own_holds : (q : ℕ) → points true c.interface q ≡ true → Holds (own_free_reading all c q))
+      (sub_holds : (s q : ℕ) → points false (interface_of s) q ≡ true → Holds (sub_free_reading all c s q)) where
+    own_meant : (o : Option ℕ) (p : PortReading) → ((q : ℕ) → o ≡ Some q → points true c.interface q ≡ true)
+        → port_meant (own_free_reading all c) (sub_free_reading all c) (option_map OwnPort o) ≡ Some p
+        → Holds p
+    own_meant None p so e = absurd (none-some p e)
+    own_meant (Some q) p so e =
+        subst Holds (same_Some (own_free_reading all c q) p e) (own_holds q (so q refl))
+
+    bare_meant : (b seen : Bool) (text : List ℕ) (p : PortReading)
+        → port_meant (own_free_reading all c) (sub_free_reading all c)
+        (if b then option_map OwnPort (directed_port true c.interface text) else enumerator_if seen) ≡ Some p
+        → Holds p
+    bare_meant true seen text p e = own_meant (directed_port true c.interface text) p (directed_points true c.interface text) e
+    bare_meant false true text p e = absurd (none-some p e)
+    bare_meant false false text p e = absurd (none-some p e)
+
+    sub_meant : (s : ℕ) (o : Option ℕ) (p : PortReading) →
+        ((q : ℕ) → o ≡ Some q → points false (interface_of s) q ≡ true)
+        → port_meant (own_free_reading all c) (sub_free_reading all c) (option_map (SubPort s) o) ≡ Some p
+        → Holds p
+    sub_meant s None p so e = absurd (none-some p e)
+    sub_meant s (Some q) p so e =
+        subst Holds (same_Some (sub_free_reading all c s q) p e) (sub_holds s q (so q refl))
+
+    dotted_meant : (o : Option ℕ) (port : List ℕ) (p : PortReading)
+        → port_meant (own_free_reading all c) (sub_free_reading all c)
+        (option_and_then (λ (s : ℕ). option_map (SubPort s) (directed_port false (interface_of s) port)) o) ≡ Some p
+        → Holds p
+    dotted_meant None port p e = absurd (none-some p e)
+    dotted_meant (Some s) port p e = sub_meant s (directed_port false (interface_of s) port) p (directed_points false (interface_of s) port) e
+
+    wanted_meant : (o : Option ℕ) (p : PortReading) → ((q : ℕ) → o ≡ Some q → points true c.interface q ≡ true)
+        → option_map (own_free_reading all c) o ≡ Some p → Holds p
+    wanted_meant None p so e = absurd (none-some p e)
+    wanted_meant (Some q) p so e =
+        subst Holds (same_Some (own_free_reading all c q) p e) (own_holds q (so q refl))
+
+    pub connection_means : MeansOnly Holds (connection_reading all c)
+    connection_means = record {
+      bare = λ text p e. bare_meant (is_some (port_place c.interface text)) (sees_enumerator all c.interface (refinement_parts c) text) text p e;
+      dotted = λ sub port p e. dotted_meant (sub_place (refinement_parts c) sub) port p e;
+      wanted = λ text p e. wanted_meant (directed_port true c.interface text) p (directed_points true c.interface text) e;
+    }
+
   module _ (meant : Each IsMeant (refinement_parts c)) where
     not_driven : (t : Target) → is_driven t.sub t.port.0 ≡ false
         → list_any (same_target t) (filter_map (driven_target all c) (refinement_parts c)) ≡ false
@@ -131,11 +179,13 @@ module _ (all : List Component) (c : Component) where
         (filter_map (driven_target all c) (refinement_parts c))
         (each_kept (driven_target all c) IsMeant Driven one_driven (refinement_parts c) meant))
 
-    own_below : (place : ℕ) → points true c.interface place ≡ true → (own_free_reading all c place).number < length
-        (free_order all c)
-    own_below place h =
+    -- what one may read is free
+
+    pub own_free : (place : ℕ) → points true c.interface place ≡ true
+        → slice_get (free_order all c) (own_free_reading all c place).number ≡ Some (target None place)
+    own_free place h =
         let own : ℕ = length (port_declarations c.interface) in
-        free_below own (sub_port_counts all c) (filter_map (driven_target all c) (refinement_parts c)) (target None place)
+        free_at own (sub_port_counts all c) (filter_map (driven_target all c) (refinement_parts c)) (target None place)
         (own_among own (sub_port_counts all c) place (points_within true c.interface place h))
         (not_driven (target None place) (opposite (slice_get (port_declarations c.interface) place) h))
 
@@ -154,57 +204,18 @@ module _ (all : List Component) (c : Component) where
         by None e = absurd (false≢true (sym (none_points place) ∙ e))
         by (Some s) e = refl
 
-    sub_below : (sub place : ℕ) → points false (interface_of sub) place ≡ true
-        → (sub_free_reading all c sub place).number < length (free_order all c)
-    sub_below sub place h =
+    pub sub_free : (sub place : ℕ) → points false (interface_of sub) place ≡ true
+        → slice_get (free_order all c) (sub_free_reading all c sub place).number
+        ≡ Some (target (Some (record { 0 = sub })) place)
+    sub_free sub place h =
         let own : ℕ = length (port_declarations c.interface) in
         let t : Target = target (Some (record { 0 = sub })) place in
-        free_below own (sub_port_counts all c) (filter_map (driven_target all c) (refinement_parts c)) t
+        free_at own (sub_port_counts all c) (filter_map (driven_target all c) (refinement_parts c)) t
         (sub_among own (sub_port_counts all c) sub place (length (port_declarations (interface_of sub))) (count_at sub place h)
         (points_within false (interface_of sub) place h))
         (not_driven t (opposite_back (slice_get (port_declarations (interface_of sub)) place) h))
 
-    -- what the names of a connection mean
-
-    own_meant : (o : Option ℕ) (p : PortReading) → ((q : ℕ) → o ≡ Some q → points true c.interface q ≡ true)
-        → port_meant (own_free_reading all c) (sub_free_reading all c) (option_map OwnPort o) ≡ Some p
-        → p.number < length (free_order all c)
-    own_meant None p so e = absurd (none-some p e)
-    own_meant (Some q) p so e =
-        subst (λ (r : PortReading). r.number < length (free_order all c)) (same_Some (own_free_reading all c q) p e) (own_below q (so q refl))
-
-    bare_meant : (b seen : Bool) (text : List ℕ) (p : PortReading)
-        → port_meant (own_free_reading all c) (sub_free_reading all c)
-        (if b then option_map OwnPort (directed_port true c.interface text) else enumerator_if seen) ≡ Some p
-        → p.number < length (free_order all c)
-    bare_meant true seen text p e = own_meant (directed_port true c.interface text) p (directed_points true c.interface text) e
-    bare_meant false true text p e = absurd (none-some p e)
-    bare_meant false false text p e = absurd (none-some p e)
-
-    sub_meant : (s : ℕ) (o : Option ℕ) (p : PortReading) →
-        ((q : ℕ) → o ≡ Some q → points false (interface_of s) q ≡ true)
-        → port_meant (own_free_reading all c) (sub_free_reading all c) (option_map (SubPort s) o) ≡ Some p
-        → p.number < length (free_order all c)
-    sub_meant s None p so e = absurd (none-some p e)
-    sub_meant s (Some q) p so e =
-        subst (λ (r : PortReading). r.number < length (free_order all c)) (same_Some (sub_free_reading all c s q) p e) (sub_below s q (so q refl))
-
-    dotted_meant : (o : Option ℕ) (port : List ℕ) (p : PortReading)
-        → port_meant (own_free_reading all c) (sub_free_reading all c)
-        (option_and_then (λ (s : ℕ). option_map (SubPort s) (directed_port false (interface_of s) port)) o) ≡ Some p
-        → p.number < length (free_order all c)
-    dotted_meant None port p e = absurd (none-some p e)
-    dotted_meant (Some s) port p e = sub_meant s (directed_port false (interface_of s) port) p (directed_points false (interface_of s) port) e
-
-    wanted_meant : (o : Option ℕ) (p : PortReading) → ((q : ℕ) → o ≡ Some q → points true c.interface q ≡ true)
-        → option_map (own_free_reading all c) o ≡ Some p → p.number < length (free_order all c)
-    wanted_meant None p so e = absurd (none-some p e)
-    wanted_meant (Some q) p so e =
-        subst (λ (r : PortReading). r.number < length (free_order all c)) (same_Some (own_free_reading all c q) p e) (own_below q (so q refl))
-
     pub connection_below : IsBelow (length (free_order all c)) (connection_reading all c)
-    connection_below = record {
-      bare = λ text p e. bare_meant (is_some (port_place c.interface text)) (sees_enumerator all c.interface (refinement_parts c) text) text p e;
-      dotted = λ sub port p e. dotted_meant (sub_place (refinement_parts c) sub) port p e;
-      wanted = λ text p e. wanted_meant (directed_port true c.interface text) p (directed_points true c.interface text) e;
-    }
+    connection_below = connection_means (λ (p : PortReading). p.number < length (free_order all c))
+        (λ q h. slice_get_within (free_order all c) (own_free_reading all c q).number (target None q) (own_free q h))
+        (λ s q h. slice_get_within (free_order all c) (sub_free_reading all c s q).number (target (Some (record { 0 = s })) q) (sub_free s q h))

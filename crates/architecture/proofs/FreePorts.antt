@@ -1,16 +1,17 @@
 -- A port that no connection drives has a place in the free order.
-use Rattle.std.proofs.Common.{◌≡◌, ℕ, zero, suc, ◌+◌, ◌<◌, ◌≤◌, inl, inr, Bool, true, false, not, cond, List, [], ◌∷◌, length, map, filter, position, slice_get}
+use Rattle.std.proofs.Common.{◌≡◌, ℕ, zero, suc, ◌+◌, ◌<◌, ◌≤◌, inl, inr, Bool, true, false, not, cond, List, [], ◌∷◌, map, filter, position, slice_get, get_or}
 use Rattle.std.proofs.Common.{Option, Some, None, is_some, unwrap_or, refl, sym, ap, subst, ◌∙◌, arith}
 use Rattle.std.specs.List.{list_any, range_with_len}
 use Rattle.std.proofs.lemmas.Bool.{false≢true, or_cases, or_left, or_right, cases_eq}
 use Rattle.std.proofs.lemmas.List.Folds.{list_any-append}
-use Rattle.std.proofs.lemmas.Option.{none-some, same_Some}
+use Rattle.std.proofs.lemmas.List.Quantifiers.{position-Some}
+use Rattle.std.proofs.lemmas.Option.{none-some, same_Some, slice_get-get_or}
 use Rattle.oss_base.specs.declared.ids.SubId.{SubId}
 use Rattle.spec_model.specs.Architecture.{target, same_target}
 use Rattle.spec_model.specs.FreeRows.{row, rows, ports_among, is_unconnected, free_among}
 use Rattle.spec_model.specs.declared.wire.Target.{Target}
 use Rattle.spec_model.proofs.Targets.{same_target_is, same_target_itself}
-use Rattle.spec_names.proofs.Lists.{position-any, position_within}
+use Rattle.spec_names.proofs.Lists.{position-any}
 use Rattle.spec_types.specs.TreeComponents.{free_number}
 
 row_has : (sub : Option SubId) (start count k : ℕ) → start ≤ k → k < start + count
@@ -79,15 +80,18 @@ filter_has t test (u ∷ ts) passes has =
     either true h = or_right (same_target t u) (list_any (same_target t) (filter test ts)) h
     either false h = h
 
-place_within : {X : Type 0} (test : X → Bool) (xs : List X) (o : Option ℕ) → position test xs ≡ o → is_some o ≡ true
-    → unwrap_or o 0 < length xs
-place_within test xs None e h = absurd (false≢true h)
-place_within test xs (Some place) e h = position_within test xs place e
+-- what is found stands at its place
+place_at : (t : Target) (order : List Target) (o : Option ℕ) → position (same_target t) order ≡ o → is_some o ≡ true
+    → slice_get order (unwrap_or o 0) ≡ Some t
+place_at t order None e h = absurd (false≢true h)
+place_at t order (Some place) e h =
+    let found = position-Some (same_target t) order place t e in
+    slice_get-get_or order place t found.0 ∙ ap Some (sym (same_target_is t (get_or order place t) found.1))
 
-pub free_below : (own : ℕ) (counts : List ℕ) (driven : List Target) (t : Target)
+pub free_at : (own : ℕ) (counts : List ℕ) (driven : List Target) (t : Target)
     → list_any (same_target t) (ports_among own counts) ≡ true → list_any (same_target t) driven ≡ false
-    → free_number (free_among own counts driven) t < length (free_among own counts driven)
-free_below own counts driven t has free =
+    → slice_get (free_among own counts driven) (free_number (free_among own counts driven) t) ≡ Some t
+free_at own counts driven t has free =
     let order : List Target = free_among own counts driven in
     let kept = filter_has t (is_unconnected driven) (ports_among own counts) (ap not free) has in
-    place_within (same_target t) order (position (same_target t) order) refl (position-any (same_target t) order ∙ kept)
+    place_at t order (position (same_target t) order) refl (position-any (same_target t) order ∙ kept)

@@ -11,3 +11,8 @@ pub mod Directions
 pub mod Sources
 pub mod WellFormed
 pub mod Written
+pub mod Intervals
+pub mod SourceTypes
+pub mod FewTerminals
+pub mod ShortTerms
+pub mod SmallSpecs

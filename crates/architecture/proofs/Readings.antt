@@ -19,11 +19,15 @@ TypedReadsBelow n (Formula f) = ReadsBelow n f
 TypedReadsBelow n (Term t values) = NumberReadsBelow n t
 TypedReadsBelow n (Pick p names) = ChoiceReadsBelow n p
 
+-- what the names mean are ports of which this is so
+pub record MeansOnly (Holds : PortReading → Type 0) (reading : ExpressionReading) : Type 0 where
+  pub bare : (text : List ℕ) (p : PortReading) → reading.bare text ≡ Some p → Holds p
+  pub dotted : (sub port : List ℕ) (p : PortReading) → reading.dotted sub port ≡ Some p → Holds p
+  pub wanted : (text : List ℕ) (p : PortReading) → reading.wanted text ≡ Some p → Holds p
+
 -- what the names mean are ports below n
-pub record IsBelow (n : ℕ) (reading : ExpressionReading) : Type 0 where
-  pub bare : (text : List ℕ) (p : PortReading) → reading.bare text ≡ Some p → p.number < n
-  pub dotted : (sub port : List ℕ) (p : PortReading) → reading.dotted sub port ≡ Some p → p.number < n
-  pub wanted : (text : List ℕ) (p : PortReading) → reading.wanted text ≡ Some p → p.number < n
+abbrev pub IsBelow : ℕ → ExpressionReading → Type 0
+IsBelow n reading = MeansOnly (λ (p : PortReading). p.number < n) reading
 
 module _ (n : ℕ) where
   pub formula_reads : (t : Typed) → TypedReadsBelow n t → ReadsBelow n (formula_in t)

@@ -246,32 +246,39 @@ module _ (all : List Component) (c : Component) where
     pub at : slice_get (own_ports (interface_seen t.sub)) t.port.0 ≡ Some port
     pub fits : IsMeaningOf port.kind m
 
-  seen_by : (input : Bool) (interface : List Item) (place : ℕ) (t : Typed) → points input interface place ≡ true
-      → admits_source (kind_at interface place) t ≡ true
-      → (port : OwnPort) × (slice_get (own_ports interface) place ≡ Some port) × IsMeaningOf port.kind (typed_source t)
-  seen_by input interface place t there admits =
+  -- a port at this place admits the source
+  abbrev pub AdmitsAt : List Item → ℕ → Typed → Type 0
+  AdmitsAt interface place typed =
+      (port : OwnPort) × (slice_get (own_ports interface) place ≡ Some port) × (admits_source port.kind typed ≡ true)
+
+  admits_by : (input : Bool) (interface : List Item) (place : ℕ) (t : Typed) → points input interface place ≡ true
+      → admits_source (kind_at interface place) t ≡ true → AdmitsAt interface place t
+  admits_by input interface place t there admits =
       by (slice_get (port_declarations interface) place) there admits (slice_get-map typed_port (port_declarations interface) place)
     where
       by : (o : Option PortDeclaration) → option_map_or (has_direction input) o false ≡ true
           → admits_source (option_map_or (λ (port : PortDeclaration). type_of port.kind) o kind.Bool) t ≡ true
-          → slice_get (own_ports interface) place ≡ option_map typed_port o
-          → (port : OwnPort) × (slice_get (own_ports interface) place ≡ Some port) × IsMeaningOf port.kind
-          (typed_source t)
+          → slice_get (own_ports interface) place ≡ option_map typed_port o → AdmitsAt interface place t
       by None h a e = absurd (false≢true h)
-      by (Some d) h a e = (typed_port d, e, source_fits (type_of d.kind) t a)
+      by (Some d) h a e = (typed_port d, e, a)
 
-  any_seen : (sub : Option SubId) (place : ℕ) (typed : Typed) → is_driven all c sub place ≡ true
-      → admits_source (kind_at (interface_seen sub) place) typed ≡ true
-      → (port : OwnPort) × (slice_get (own_ports (interface_seen sub)) place ≡ Some port) × IsMeaningOf port.kind
-      (typed_source typed)
-  any_seen None place typed driven admits = seen_by false c.interface place typed driven admits
-  any_seen (Some sub) place typed driven admits = seen_by true (interface_of all c sub.0) place typed driven admits
+  admits_any : (sub : Option SubId) (place : ℕ) (typed : Typed) → is_driven all c sub place ≡ true
+      → admits_source (kind_at (interface_seen sub) place) typed ≡ true → AdmitsAt (interface_seen sub) place typed
+  admits_any None place typed driven admits = admits_by false c.interface place typed driven admits
+  admits_any (Some sub) place typed driven admits = admits_by true (interface_of all c sub.0) place typed driven admits
 
-  seen_target : (t : Target) (typed : Typed) → is_driven all c t.sub t.port.0 ≡ true
-      → admits_source (kind_at (interface_seen t.sub) t.port.0) typed ≡ true → Seen t (typed_source typed)
-  seen_target t typed driven admits =
-      let found = any_seen t.sub t.port.0 typed driven admits in
-      record { port = found.0; at = found.1; fits = found.2 }
+  -- the target of a connection that fits it admits its source
+  pub target_admits : (t : TargetTree) (typed : Typed)
+      → is_some (target_meaning all c.interface (refinement_parts c) t) ≡ true
+      → admits_source (target_kind all c (target_meaning all c.interface (refinement_parts c) t)) typed ≡ true
+      → AdmitsAt (interface_seen (tree_target all c t).sub) (tree_target all c t).port.0 typed
+  target_admits t typed meant fits =
+      admits_any (tree_target all c t).sub (tree_target all c t).port.0 typed (target_driven all c t meant)
+      (subst (λ (type : PortType). admits_source type typed ≡ true) (kind_seen t meant) fits)
+
+  seen_target : (t : Target) (typed : Typed) → AdmitsAt (interface_seen t.sub) t.port.0 typed
+      → Seen t (typed_source typed)
+  seen_target t typed found = record { port = found.0; at = found.1; fits = source_fits found.0.kind typed found.2 }
 
   module _ (sound : IsSound all c) where
     reads_one : (p : RefinementItemTree) (m : WireMeaning) → Unit {0} → tree_wire all c (connection_reading all c) p
@@ -294,8 +301,8 @@ module _ (all : List Component) (c : Component) where
     fits_one (Sub name component) m h e = absurd (none-some m e)
     fits_one (Connection t source) m h e =
         subst (λ (w : WireMeaning). Seen w.target w.source) (same_Some _ m e)
-        (seen_target (tree_target all c t) (typed_of (connection_reading all c) source) (target_driven all c t h.0)
-        (subst (λ (type : PortType). admits_source type (typed_of (connection_reading all c) source) ≡ true) (kind_seen t h.0) h.1))
+        (seen_target (tree_target all c t) (typed_of (connection_reading all c) source)
+        (target_admits t (typed_of (connection_reading all c) source) h.0 h.1))
     fits_one (Refined name listed) m h e = absurd (none-some m e)
 
     pub wires_fit : Each (λ (m : WireMeaning). Seen m.target m.source) (tree_wires all c)

@@ -33,14 +33,18 @@ use Rattle.spec_names.proofs.Lists.{filter_map-option_map, position_within}
 use Rattle.spec_types.specs.Typing.{PortReading, ExpressionReading, typed_of}
 use Rattle.spec_types.specs.TreeComponents.{typed_port, own_ports, port_meant, own_reading, no_reading, contract_reading, driven_target, sub_port_counts, free_order}
 use Rattle.spec_types.specs.TreeComponents.{connection_reading, tree_contract, tree_contracts, tree_wire, tree_wires}
+use Rattle.spec_values.specs.FreeTypes.{HasFreeTypes, SourcesKeepTypes}
+use Rattle.typed_ltl.specs.Traces.{Assignment}
 use Rattle.architecture.specs.FirstFaults.{tree_site}
 use Rattle.architecture.specs.Laws.{SourceReadsBelow, IsSourceOf, SourcesReadFreePorts, SourcesFitTargets}
 use Rattle.architecture.specs.Standing.{place_or_first, tree_sub, Stands}
 use Rattle.architecture.specs.StateSources.{HasStateSource, HasStateSources}
+use Rattle.architecture.proofs.Intervals.{MeaningHasType, source_has}
 use Rattle.architecture.proofs.Listing.{Each, each_of_all, each_at, each_kept, each_true, each_mapped, each_more, each_found, any_at, kept_same}
 use Rattle.architecture.proofs.Places.{ports_made, contracts_made, wires_made, sub_made, sub_ports, counts_made}
 use Rattle.architecture.proofs.Ranks.{contained, contained_falls}
 use Rattle.architecture.proofs.Readings.{IsBelow, typed_reads, formula_reads}
+use Rattle.architecture.proofs.SourceTypes.{KeepsType, wires_keep}
 use Rattle.architecture.proofs.Sources.{clear_phases, HasComponent, IsSound, sound_at, names_empty, MeaningReadsBelow, IsStateMeaning, IsMeaningOf}
 use Rattle.architecture.proofs.Sources.{interface_seen, Seen, wires_read, wires_fit, wires_state}
 
@@ -126,7 +130,7 @@ module _ (bytes : List ℕ) (all : List Component) (made : Spec) (stands : Stand
     have : Each (HasComponent all) (sub_declarations (parts_at all n))
     have = subst (λ parts. Each (HasComponent all) (sub_declarations parts)) (sym parts_are) sound.subs
 
-    ports_seen : (sub : Option SubId) → ports_at made (record { 0 = n }) sub ≡ own_ports (interface_seen all c sub)
+    pub ports_seen : (sub : Option SubId) → ports_at made (record { 0 = n }) sub ≡ own_ports (interface_seen all c sub)
     ports_seen None = ports_made bytes all made stands n ∙ ap own_ports interface_is
     ports_seen (Some sub) =
         sub_ports bytes all made stands n sub.0 have ∙ ap (λ parts. own_ports (sub_interface_at all parts sub.0)) parts_are
@@ -156,7 +160,7 @@ module _ (bytes : List ℕ) (all : List Component) (made : Spec) (stands : Stand
     counts_are = counts_made bytes all made stands n have ∙ ap (λ parts. map
         (λ (s : SubDeclaration). length (port_declarations (declared_interface all s.component.text))) (sub_declarations parts)) parts_are
 
-    free_is : free_targets made (record { 0 = n }) ≡ free_order all c
+    pub free_is : free_targets made (record { 0 = n }) ≡ free_order all c
     free_is = free_targets_are made (record { 0 = n }) ∙ (λ j. free_among (own_is j) (counts_are j) (targets_are j))
 
     seen_fits : (m : WireMeaning) → Seen all c m.target m.source
@@ -198,6 +202,30 @@ module _ (bytes : List ℕ) (all : List Component) (made : Spec) (stands : Stand
         (λ (m : WireMeaning). (port : OwnPort) × (port_at made id m.target ≡ Some port) × IsMeaningOf port.kind m.source)
         (seen_fits n c there (sound n c there)) (tree_wires all c) (wires_fit all c (sound n c there)))) k w at in
         (found.0, found.1, source_of found.0.kind w.source found.2)
+
+    -- a connection gives its target values of the target's type
+    abbrev MadeKeeps : ComponentId → WireMeaning → Type 0
+    MadeKeeps id m =
+        (port : OwnPort) × (port_at made id m.target ≡ Some port)
+        × ((free : Assignment) → HasFreeTypes made id free → MeaningHasType free port.kind m.source)
+
+    keeps_made : (n : ℕ) (c : Component) → slice_get all n ≡ Some c → (m : WireMeaning) → KeepsType all c m
+        → MadeKeeps (record { 0 = n }) m
+    keeps_made n c at m keeps =
+        let known : IsSound all c = sound n c at in (
+          keeps.0,
+          ap (λ list. slice_get list m.target.port.0) (ports_seen n c at known m.target.sub) ∙ keeps.1,
+          λ free has. keeps.2 free (λ k t port here there. has k t port (ap (λ order. slice_get order k) (free_is n c at known) ∙ here)
+              (ap (λ list. slice_get list t.port.0) (ports_seen n c at known t.sub) ∙ there)),
+        )
+
+    pub keep_types : SourcesKeepTypes made
+    keep_types id k w at =
+        let n : ℕ = id.0 in
+        let found = each_at (λ (v : Wire). MadeKeeps id (wire_meaning v)) (wires_of made id)
+        (each_wire (MadeKeeps id) n
+        (λ c there. each_more (KeepsType all c) (MadeKeeps id) (keeps_made n c there) (tree_wires all c) (wires_keep all c (sound n c there)))) k w at in
+        (found.0, found.1, λ free has. source_has free found.0.kind w.source (found.2 free has))
 
     -- ranks
 
@@ -264,3 +292,7 @@ pub connected : (bytes : List ℕ) (all : List Component) (made : Spec) → tree
     → Stands bytes all made
     → SourcesReadFreePorts made × SourcesFitTargets made
 connected bytes all made clear stands = (reads_free bytes all made stands clear, fit_targets bytes all made stands clear)
+
+pub types_kept : (bytes : List ℕ) (all : List Component) (made : Spec) → tree_site (length bytes) all ≡ None
+    → Stands bytes all made → SourcesKeepTypes made
+types_kept bytes all made clear stands = keep_types bytes all made stands clear

@@ -1,10 +1,14 @@
 -- What is always so of the specification that a tree stands for (well-formedness as in Cimatti and Tonetta,
 -- Contracts-refinement proof system for component-based embedded systems, 2015).
-use Rattle.std.specs.Prelude.{◌≡◌, ℕ, List, length, Some, None, slice_get}
+use Rattle.std.specs.Prelude.{◌≡◌, ℕ, ◌≤◌, List, length, Some, None, slice_get}
+use Rattle.oss_base.specs.Limits.{most_bytes}
 use Rattle.oss_base.specs.declared.ids.ComponentId.{ComponentId}
 use Rattle.oss_syntax.specs.Alphabet.{Terminal}
+use Rattle.oss_syntax.specs.Terminals.{terminals_of}
 use Rattle.oss_syntax.specs.Texts.{IsText}
+use Rattle.oss_syntax.specs.Tokens.{AreTokens}
 use Rattle.oss_syntax.specs.Trees.{Component}
+use Rattle.oss_syntax.specs.declared.token.Token.{Token}
 use Rattle.port_types.specs.declared.types.PortType.{PortType}
 use Rattle.port_types.specs.declared.types.PortType.TheVariants as kind
 use Rattle.spec_model.specs.Architecture.{IsWellFormed, free_targets, port_at, wires_of}
@@ -14,6 +18,8 @@ use Rattle.spec_model.specs.declared.spec.Spec.{Spec}
 use Rattle.spec_model.specs.declared.wire.Source.{Source}
 use Rattle.spec_model.specs.declared.wire.Source.TheVariants as source
 use Rattle.spec_model.specs.declared.wire.Wire.{Wire}
+use Rattle.spec_values.specs.FreeTypes.{SourcesKeepTypes}
+use Rattle.spec_values.specs.SmallNumbers.{HasSmallNumbers}
 use Rattle.typed_ltl.specs.Formulas.{meaning, number_of, choice_of}
 use Rattle.architecture.specs.FirstFaults.{tree_site}
 use Rattle.architecture.specs.Standing.{Stands}
@@ -63,3 +69,15 @@ abbrev pub ResolvedIsConnected : Type 0
 ResolvedIsConnected =
     (bytes : List ℕ) (all : List Component) (spec : Spec) → tree_site (length bytes) all ≡ None
     → Stands bytes all spec → SourcesReadFreePorts spec × SourcesFitTargets spec
+
+-- each connection of what a tree without a fault stands for gives its target a value of the target's type
+abbrev pub ResolvedKeepsTypes : Type 0
+ResolvedKeepsTypes =
+    (bytes : List ℕ) (all : List Component) (spec : Spec) → tree_site (length bytes) all ≡ None
+    → Stands bytes all spec → SourcesKeepTypes spec
+
+-- what a text of a file stands for has small numbers
+abbrev pub ResolvedHasSmallNumbers : Type 0
+ResolvedHasSmallNumbers =
+    (bytes : List ℕ) (tokens : List Token) (all : List Component) (spec : Spec) → length bytes ≤ most_bytes
+    → AreTokens bytes tokens → IsText (terminals_of bytes tokens) all → Stands bytes all spec → HasSmallNumbers spec

@@ -12,7 +12,9 @@ mod resolving;
 mod tests;
 mod text_places;
 
-pub use laws::{resolved_is_well_formed, stands_is_unique, texts_have_state_sources};
+pub use laws::{
+    resolved_has_values, resolved_is_well_formed, stands_is_unique, texts_have_state_sources,
+};
 pub use resolving::resolve;
 pub use spec_model::{
     Component, Components, Contract, Contracts, FreePort, FreePorts, Item, ItemParts, Items,

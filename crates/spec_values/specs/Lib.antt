@@ -1,0 +1,3 @@
+pub mod FreeTypes
+pub mod SmallNumbers
+pub mod Laws
