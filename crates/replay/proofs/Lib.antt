@@ -10,3 +10,8 @@ pub mod Blocks
 pub mod Spelling
 pub mod Assigning
 pub mod Printing
+pub mod Judged
+pub mod Connected
+pub mod Termless
+pub mod LassoTypes
+pub mod Moderate

@@ -1,5 +1,7 @@
--- What is always so of lasso files: no text means a lasso and breaks, and a printed lasso is read as itself.
-use Rattle.std.specs.Prelude.{◌≡◌, ◌≢◌, ℕ, ◌≤◌, ◌||◌, Bool, true, not, nat_eq, List, [], length, All, AllPairs, Some}
+-- What is always so of lasso files: no text means a lasso and breaks, and a printed lasso is read as itself; and of the
+-- traces by which contracts are judged.
+use Rattle.std.specs.Prelude.{◌≡◌, ◌≢◌, ℕ, ◌≤◌, ◌||◌, Bool, true, not, nat_eq, List, [], length, All, AllPairs}
+use Rattle.std.specs.Prelude.{Option, Some}
 use Rattle.std.specs.List.{AllZip}
 use Rattle.port_types.specs.declared.types.PortType.{PortType}
 use Rattle.port_types.specs.declared.types.PortType.TheVariants as kind
@@ -7,11 +9,17 @@ use Rattle.port_types.specs.declared.types.Value.{Value}
 use Rattle.port_types.specs.Types.{IsOfType, IsSignedNumeral}
 use Rattle.oss_base.specs.declared.ids.ComponentId.{ComponentId}
 use Rattle.oss_base.specs.Limits.{most_bytes}
+use Rattle.oss_base.specs.declared.ids.SubId.{SubId}
+use Rattle.typed_ltl.specs.Traces.{word}
 use Rattle.spec_model.specs.declared.spec.Spec.{Spec}
+use Rattle.spec_values.specs.FreeTypes.{SourcesKeepTypes}
+use Rattle.spec_values.specs.SmallNumbers.{HasSmallNumbers}
+use Rattle.connections.specs.Laws.{ConnectionsHold}
 use Rattle.replay.specs.declared.named.NamedLasso.{NamedLasso}
 use Rattle.replay.specs.FreePortNames.{free_names, free_kinds}
 use Rattle.replay.specs.LassoBlocks.{lasso_block}
 use Rattle.replay.specs.TextLines.{divides_words}
+use Rattle.replay.specs.Judgements.{seen_trace, HasModerateTerms}
 use Rattle.replay.specs.LassoFiles.{IsLasso, IsBreak, place_of_component, is_equals_sign, most_states}
 
 -- No text means a lasso and breaks.
@@ -53,3 +61,14 @@ BlocksReadBack = (spec : Spec) (name : List ℕ) (named : NamedLasso) → HasFil
     → length named.lasso.states ≤ most_states
     → length (lasso_block name (free_names spec named.component) named.lasso) ≤ most_bytes
     → IsLasso spec (lasso_block name (free_names spec named.component) named.lasso) named
+
+-- On the trace that the ports of a component, or of one of its subcomponents, see, the connections hold.
+abbrev pub SeenTracesAreConnected : Type 0
+SeenTracesAreConnected = (spec : Spec) (named : NamedLasso) (s : Option SubId)
+    → ConnectionsHold spec named.component s (word named.lasso.states named.lasso.loop_at) (seen_trace spec named s)
+
+-- A lasso that a text means can be judged: all terms are moderate, where the specification has small numbers and its
+-- connections keep to the types of their targets.
+abbrev pub LassosAreModerate : Type 0
+LassosAreModerate = (spec : Spec) (bytes : List ℕ) (named : NamedLasso) → HasSmallNumbers spec → SourcesKeepTypes spec
+    → IsLasso spec bytes named → HasModerateTerms spec named

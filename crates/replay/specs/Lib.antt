@@ -3,4 +3,7 @@ pub mod LassoBlocks
 pub mod TextLines
 pub mod LassoFiles
 pub mod Reading
+pub mod Judgements
+pub mod Judging
+pub mod Samples
 pub mod Laws

@@ -1,7 +1,8 @@
-//! What is always so of lasso files: laws on functions without code that may be called for their clauses. They touch
-//! nothing.
+//! What is always so of lasso files and judgements: laws on functions without code that may be called for their
+//! clauses. They touch nothing.
 
-ghost use Rattle.replay.specs.Laws.{LassosDontBreak, BlocksReadBack};
+ghost use Rattle.replay.specs.Laws.{LassosDontBreak, BlocksReadBack, SeenTracesAreConnected};
+ghost use Rattle.replay.specs.Laws.{LassosAreModerate};
 
 /// A text that means a lasso doesn't break, and one that breaks means none. (A law without code.)
 pub fn lassos_dont_break()
@@ -13,3 +14,17 @@ pub fn lassos_dont_break()
 pub fn blocks_read_back()
     ensures { BlocksReadBack }
 {}
+
+/// On the trace by which the contracts of a component, or of a subcomponent's, are judged, each port has the value of
+/// what it stands for on the word of the lasso. (A law without code.)
+pub fn seen_traces_are_connected()
+    ensures { SeenTracesAreConnected }
+{}
+
+/// The condition of `judge` is met by each lasso that `read_lasso` answers, where the specification has small numbers and
+/// its connections keep to the types of their targets. (A law without code.)
+pub fn lassos_are_moderate()
+    ensures { LassosAreModerate }
+{
+    spec_values::short_terms_are_moderate();
+}

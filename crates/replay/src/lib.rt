@@ -1,10 +1,16 @@
-//! Lasso files: the lasso that a text means, or the first line at which it means none, and the text of a lasso. Main
-//! functions: `read_lasso`, `write_lasso`. The crate may touch the allocator and nothing else.
+//! Lasso files: the lasso that a text means, or the first line at which it means none, the text of a lasso, and what a
+//! lasso says of contracts. Main functions: `read_lasso`, `write_lasso`, `judge`. The crate may touch the allocator and
+//! nothing else.
 #![tactic(auto)]
 
 mod block;
+mod driven;
 mod free_ports;
 mod header;
+mod judgement;
+mod judging;
+#[cfg(test)]
+mod judging_tests;
 mod laws;
 mod lines;
 mod named;
@@ -18,6 +24,10 @@ mod values;
 
 pub use block::write_lasso;
 pub use free_ports::free_names;
-pub use laws::{blocks_read_back, lassos_dont_break};
+pub use judgement::{Judgement, Judgements};
+pub use judging::judge;
+pub use laws::{
+    blocks_read_back, lassos_are_moderate, lassos_dont_break, seen_traces_are_connected,
+};
 pub use named::{LassoStop, NamedLasso};
 pub use reading::read_lasso;
