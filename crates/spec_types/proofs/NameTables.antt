@@ -1,10 +1,10 @@
 -- A table of names tells which names there are.
 
-use Rattle.std.proofs.Common.{◌≡◌, ℕ, ◌+◌, ◌<◌, ◌≤◌, Bool, true, false, ◌||◌, List, [], ◌∷◌, ◌++◌, length, take, get_or, Some, None, is_some, bytes_eq}
+use Rattle.std.proofs.Common.{◌≡◌, ℕ, ◌+◌, ◌<◌, ◌≤◌, Bool, true, false, ◌||◌, ◌&&◌, List, [], ◌∷◌, ◌++◌, length, take, get_or, Some, None, is_some, bytes_eq}
 use Rattle.std.proofs.Common.{refl, sym, ap, subst, ◌∙◌, if◌then◌else◌}
 use Rattle.std.proofs.lemmas.Bool.{false≢true}
 use Rattle.std.proofs.lemmas.List.{take_more, take_all}
-use Rattle.std.proofs.lemmas.List.Folds.{list_any-append}
+use Rattle.std.proofs.lemmas.List.Folds.{list_any-append, list_all_more}
 use Rattle.std.proofs.lemmas.Slice.Eq.{bytes_eq-Decides}
 use Rattle.std.specs.List.{list_any, list_all}
 use Rattle.spec_names.specs.Tables.{entry_place, with_place}
@@ -73,3 +73,14 @@ shared_by table names others share tells is = is ∙ ap (λ (p : List ℕ → Bo
 pub names_by : (table : List (List ℕ × ℕ)) (names others : List (List ℕ)) (are : Bool) → IsNameTable others table
     → are ≡ list_all (is_entry table) names → are ≡ are_names_of others names
 names_by table names others are tells is = is ∙ ap (λ (p : List ℕ → Bool). list_all p names) (λ j text. tells text j)
+
+-- names that are looked at one after the other
+
+pub within_more : (names others : List (List ℕ)) (i : ℕ) (x : List ℕ) → i < length names → x ≡ get_or names i x
+    → are_names_of others (take i names) ≡ true → is_name_of others x ≡ true → are_names_of others (take (i + 1) names) ≡ true
+within_more names others i x within is so more =
+    list_all_more (is_name_of others) names i x within ∙ (λ j. so j && (ap (is_name_of others) (sym is) ∙ more) j)
+
+pub within_all : (names others : List (List ℕ)) (i : ℕ) → length names ≤ i → are_names_of others (take i names) ≡ true
+    → are_names_of others names ≡ true
+within_all names others i past so = ap (are_names_of others) (sym (take_all i names past)) ∙ so

@@ -1,10 +1,12 @@
 -- Counting and noting go on where they stopped.
 
-use Rattle.std.proofs.Common.{◌≡◌, ℕ, List, [], ◌∷◌, ◌++◌, Option, Some, None, append_assoc, refl, sym, ap, ◌∙◌}
+use Rattle.std.proofs.Common.{◌≡◌, ℕ, Bool, true, false, not, if◌then◌else◌, List, [], ◌∷◌, ◌++◌, Option, Some, None, append_assoc, refl, sym, ap, ◌∙◌}
+use Rattle.std.proofs.lemmas.Bool.{false≢true}
 use Rattle.std.proofs.lemmas.List.{append-nil}
 use Rattle.port_types.specs.declared.types.PortId.{PortId}
 use Rattle.oss_base.specs.declared.sites.FaultSite.{FaultSite}
-use Rattle.oss_base.specs.Sites.{earlier_site, first_of}
+use Rattle.oss_base.specs.declared.fault.FaultKind.TheVariants as kinds
+use Rattle.oss_base.specs.Sites.{goes_before, earlier_site, first_of}
 use Rattle.spec_names.specs.Noting.{noted}
 use Rattle.oss_base.specs.declared.place.Span.{Span}
 use Rattle.oss_syntax.specs.declared.expression.Expr.{Expr}
@@ -79,6 +81,22 @@ pub noted_binary : (word : BinaryWord) (a b c d : Typed) (offset : ℕ) (xs ys :
 noted_binary word a b c d offset xs ys first middle third after are m t n =
     noted_three first middle third after xs ys (mismatch_unless (admits_operands word b d) offset) m t
     (n ∙ (λ j. noted (mismatch_unless (admits_operands word (are.left j) (are.right j)) offset) third))
+
+-- a mismatch that goes before no known fault changes nothing
+
+abbrev mismatch_at : ℕ → FaultSite
+mismatch_at offset = record { kind = kinds.F16; offset = offset }
+
+pub settled : (first : Option FaultSite) (site : FaultSite) (offset : ℕ) → first ≡ Some site
+    → not (goes_before (mismatch_at offset) site) ≡ true
+    → (fits : Bool) → first ≡ noted (mismatch_unless fits offset) first
+settled first site offset is late true = refl
+settled first site offset is late false =
+    is
+    ∙ (by (goes_before (mismatch_at offset) site) late ∙ ap (λ f. earlier_site f (Some (mismatch_at offset))) (sym is)) where
+      by : (b : Bool) → not b ≡ true → Some site ≡ Some (if b then mismatch_at offset else site)
+      by true h = absurd (false≢true h)
+      by false h = refl
 
 -- what was noted is the first of the list
 

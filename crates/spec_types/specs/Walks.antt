@@ -36,7 +36,7 @@ use Rattle.spec_types.specs.Typing as specs
 abbrev pub typed : Typed → specs.Typed
 typed (code.Truth f) = specs.Formula (meaning f)
 typed (code.Number t values) = specs.Term (number_of t) values
-typed (code.Choice p names) = specs.Pick (choice_of p) names.now
+typed (code.Choice p set) = specs.Pick (choice_of p) set.names.now
 
 abbrev pub port : PortRead → PortReading
 port p = record { number = p.number.0; kind = p.kind.now }

@@ -14,6 +14,7 @@ ghost use Rattle.spec_types.specs.Tables as facts;
 use crate::connections::{targets_of, wires_of};
 use crate::contracts::contracts_of;
 use crate::declarations::own_ports;
+use crate::enumerations::Sightings;
 use crate::scope::{PortScope, RefinementScope, Scope, component_scope};
 use oss_base::{FaultSite, FirstSite, first_is_least, first_of_both};
 use oss_syntax::{RefinementItem, TreeComponent};
@@ -57,6 +58,7 @@ fn put_scope<'a>(
     scopes: &mut Vec<PortScope<'a>>,
     tables: Option<&'a InterfaceTables>,
     ports: Option<&'a OwnPorts>,
+    first_type: u32,
 ) -> Result<(), NoMemory>
     ensures { OnOk result (map walks.interface scopes.new.items ≡ map walks.interface scopes.old.items
         ++ cons_option (option_map facts.interface_by (facts.both (option_copied tables.entry)
@@ -70,6 +72,7 @@ fn put_scope<'a>(
                 scopes.push(PortScope {
                     table: &tables.ports,
                     ports: ports.as_slice(),
+                    first_type,
                 })?;
                 Ok(())
             }
@@ -77,7 +80,18 @@ fn put_scope<'a>(
     }
 }
 
-/// The ports of all components, each with the table of their places.
+/// The number of the first type after those of these ports.
+fn next_type(first_type: u32, ports: Option<&OwnPorts>) -> Result<u32, NoMemory> {
+    match ports {
+        None => Ok(first_type),
+        Some(ports) => match u32::try_from(ports.len()) {
+            Ok(count) => first_type.checked_add(count).ok_or(NoMemory),
+            Err(_) => Err(NoMemory),
+        },
+    }
+}
+
+/// The ports of all components, each with the table of their places. Their types are numbered in this order.
 fn all_scopes<'a>(
     alloc: Global,
     interfaces: &'a [InterfaceTables],
@@ -87,10 +101,12 @@ fn all_scopes<'a>(
         ≡ map facts.interface_by (zip interfaces.now ports.now)) }
 {
     let mut scopes = Vec::new(alloc);
+    let mut first_type = 0;
     for place in 0..interfaces.len() {
         let tables = at(interfaces, place);
         let own = at(ports, place);
-        put_scope(&mut scopes, tables, own)?;
+        put_scope(&mut scopes, tables, own, first_type)?;
+        first_type = next_type(first_type, own)?;
     }
     Ok(scopes)
 }
@@ -98,6 +114,7 @@ fn all_scopes<'a>(
 /// Puts the contracts of one more component, if it is there with its ports.
 fn put_contracts<'a>(
     alloc: Global,
+    sightings: &mut Sightings,
     contracts: &mut Vec<Contracts>,
     component: Option<&'a TreeComponent>,
     ports: Option<&PortScope<'a>>,
@@ -118,7 +135,7 @@ fn put_contracts<'a>(
             Some(ports) => {
                 let scope = Scope::Contract(*ports);
                 let items = component.interface.as_slice();
-                contracts.push(contracts_of(alloc, &scope, items, first)?)?;
+                contracts.push(contracts_of(alloc, sightings, &scope, items, first)?)?;
                 Ok(())
             }
         },
@@ -128,6 +145,7 @@ fn put_contracts<'a>(
 /// The contracts of each component.
 fn all_contracts<'a>(
     alloc: Global,
+    sightings: &mut Sightings,
     components: &'a [TreeComponent],
     scopes: &[PortScope<'a>],
     first: &mut FirstSite,
@@ -141,7 +159,7 @@ fn all_contracts<'a>(
     for place in 0..components.len() {
         let component = at(components, place);
         let own = at(scopes, place);
-        put_contracts(alloc, &mut contracts, component, own, first)?;
+        put_contracts(alloc, sightings, &mut contracts, component, own, first)?;
     }
     Ok(contracts)
 }
@@ -176,6 +194,7 @@ fn port_counts(
 /// The connections of a refinement.
 fn refinement_wires<'a>(
     alloc: Global,
+    sightings: &mut Sightings,
     scope: &RefinementScope<'a>,
     items: &'a [RefinementItem],
     first: &mut FirstSite,
@@ -188,12 +207,13 @@ fn refinement_wires<'a>(
     let targets = targets_of(alloc, scope, items)?;
     let counts = port_counts(alloc, scope.scopes, scope.components)?;
     let order = FreeOrder::new(alloc, scope.own.ports.len(), counts, targets.as_slice())?;
-    wires_of(alloc, scope, &order, items, first)
+    wires_of(alloc, sightings, scope, &order, items, first)
 }
 
 /// The connections of a component, none where it has no refinement.
 fn component_wires<'a>(
     alloc: Global,
+    sightings: &mut Sightings,
     component: &'a TreeComponent,
     scope: &RefinementScope<'a>,
     first: &mut FirstSite,
@@ -205,13 +225,14 @@ fn component_wires<'a>(
 {
     match &component.refinement {
         None => Ok(Wires::new(alloc)),
-        Some(items) => refinement_wires(alloc, scope, items.as_slice(), first),
+        Some(items) => refinement_wires(alloc, sightings, scope, items.as_slice(), first),
     }
 }
 
 /// Puts the connections of one more component, if it is there with its ports and the names of its refinement.
 fn put_wires<'a>(
     alloc: Global,
+    sightings: &mut Sightings,
     wires: &mut Vec<Wires>,
     component: Option<&'a TreeComponent>,
     own: Option<&PortScope<'a>>,
@@ -241,7 +262,7 @@ fn put_wires<'a>(
                         components: tables.components.as_slice(),
                         scopes,
                     };
-                    let made = component_wires(alloc, component, &scope, first)?;
+                    let made = component_wires(alloc, sightings, component, &scope, first)?;
                     wires.push(made)?;
                     Ok(())
                 }
@@ -253,6 +274,7 @@ fn put_wires<'a>(
 /// The connections of each component.
 fn all_wires<'a>(
     alloc: Global,
+    sightings: &mut Sightings,
     components: &'a [TreeComponent],
     scopes: &'a [PortScope<'a>],
     refinements: &'a [RefinementTables],
@@ -270,7 +292,9 @@ fn all_wires<'a>(
         let component = at(components, place);
         let own = at(scopes, place);
         let tables = at(refinements, place);
-        put_wires(alloc, &mut wires, component, own, tables, scopes, first)?;
+        put_wires(
+            alloc, sightings, &mut wires, component, own, tables, scopes, first,
+        )?;
     }
     Ok(wires)
 }
@@ -307,8 +331,9 @@ fn typed_by_tables(
     let scopes = all_scopes(alloc, interfaces, own)?;
     let all = scopes.as_slice();
     let refinements = directory.refinements.as_slice();
-    let contracts = all_contracts(alloc, components, all, first)?;
-    let wires = all_wires(alloc, components, all, refinements, first)?;
+    let mut sightings = Sightings::new(alloc);
+    let contracts = all_contracts(alloc, &mut sightings, components, all, first)?;
+    let wires = all_wires(alloc, &mut sightings, components, all, refinements, first)?;
     drop(scopes);
     let port_lists = ListOf::from_vec(ports);
     let contract_lists = ListOf::from_vec(contracts);

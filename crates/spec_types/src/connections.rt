@@ -15,10 +15,11 @@ ghost use Rattle.spec_types.specs.Walks as walks;
 ghost use Rattle.spec_types.specs.Making as making;
 
 use crate::contracts::{start, used_expression};
+use crate::enumerations::Sightings;
 use crate::fits::admits_source;
 use crate::scope::{FoundPort, RefinementScope, Scope, find_port, find_sub_port, same_direction};
 use crate::typed::Typed;
-use crate::walk::note_unless;
+use crate::walk::{is_settled, note_unless};
 use oss_base::{FirstSite, SubId};
 use oss_syntax::{Expr, RefinementItem, TargetTree};
 use port_types::{NoMemory, PortId, PortType};
@@ -71,6 +72,7 @@ pub(crate) fn target_of(scope: &RefinementScope, target: &TargetTree) -> Target
 /// Whether the expression may be the value of a port of this direction; one that is none counts as boolean.
 fn admits(
     alloc: Global,
+    sightings: &mut Sightings,
     input: bool,
     found: Option<FoundPort>,
     source: &Typed,
@@ -81,17 +83,24 @@ fn admits(
     match found {
         Some(found) => {
             if same_direction(found.port.input, input) {
-                admits_source(alloc, &found.port.kind, source)
+                admits_source(
+                    alloc,
+                    sightings,
+                    &found.port.kind,
+                    Some(found.type_number),
+                    source,
+                )
             } else {
-                admits_source(alloc, &PortType::Bool, source)
+                admits_source(alloc, sightings, &PortType::Bool, None, source)
             }
         }
-        None => admits_source(alloc, &PortType::Bool, source),
+        None => admits_source(alloc, sightings, &PortType::Bool, None, source),
     }
 }
 
 fn target_admits(
     alloc: Global,
+    sightings: &mut Sightings,
     scope: &RefinementScope,
     target: &TargetTree,
     source: &Typed,
@@ -102,13 +111,33 @@ fn target_admits(
     match target {
         TargetTree::Own(port) => {
             let found = find_port(scope.own, port.text.as_str());
-            admits(alloc, false, found, source)
+            admits(alloc, sightings, false, found, source)
         }
         TargetTree::OfSub(sub, port) => match find_sub_port(scope, sub, port) {
-            Some((_, found)) => admits(alloc, true, Some(found), source),
-            None => admits_source(alloc, &PortType::Bool, source),
+            Some((_, found)) => admits(alloc, sightings, true, Some(found), source),
+            None => admits_source(alloc, sightings, &PortType::Bool, None, source),
         },
     }
+}
+
+/// Notes a type mismatch where the expression may not be the value of the target, unless an earlier fault is known.
+fn note_source(
+    alloc: Global,
+    sightings: &mut Sightings,
+    scope: &RefinementScope,
+    target: &TargetTree,
+    source: &Typed,
+    offset: u32,
+    first: &mut FirstSite,
+) -> Result<(), NoMemory>
+    ensures { OnOk result (first.new ≡ noted (faults.mismatch_unless (faults.admits_source
+        (walks.kind_by (walks.refinement scope.now) target.now) (walks.typed source.now)) offset) first.old) }
+{
+    if !is_settled(offset, first) {
+        let fit = target_admits(alloc, sightings, scope, target, source)?;
+        note_unless(fit, offset, first);
+    }
+    Ok(())
 }
 
 fn source_of(typed: Typed) -> Source
@@ -125,6 +154,7 @@ fn source_of(typed: Typed) -> Source
 #[tactic(auto, using(crate::proofs::Walking::walk_lemmas))]
 fn wire<'a>(
     alloc: Global,
+    sightings: &mut Sightings,
     scope: &RefinementScope<'a>,
     order: &FreeOrder,
     target: &TargetTree,
@@ -140,9 +170,16 @@ fn wire<'a>(
         (walks.kind_by (walks.refinement scope.now) target.now) (tree source.now)) first.old) }
 {
     let names = Scope::Connection(*scope, order);
-    let (typed, uses) = used_expression(alloc, &names, source, first)?;
-    let fit = target_admits(alloc, scope, target, &typed)?;
-    note_unless(fit, start(source), first);
+    let (typed, uses) = used_expression(alloc, sightings, &names, source, first)?;
+    note_source(
+        alloc,
+        sightings,
+        scope,
+        target,
+        &typed,
+        start(source),
+        first,
+    )?;
     Ok(Wire {
         target: target_of(scope, target),
         source: source_of(typed),
@@ -154,6 +191,7 @@ fn wire<'a>(
 #[tactic(auto, using(crate::proofs::Making::put_meaning))]
 fn put_wire<'a>(
     alloc: Global,
+    sightings: &mut Sightings,
     scope: &RefinementScope<'a>,
     order: &FreeOrder,
     item: &'a RefinementItem,
@@ -173,7 +211,7 @@ fn put_wire<'a>(
             component: _,
         } => Ok(()),
         RefinementItem::Connection { target, source } => {
-            wires.push(wire(alloc, scope, order, target, source, first)?)
+            wires.push(wire(alloc, sightings, scope, order, target, source, first)?)
         }
         RefinementItem::Contract { name: _, parts: _ } => Ok(()),
     }
@@ -182,6 +220,7 @@ fn put_wire<'a>(
 /// The connections among these items.
 pub(crate) fn wires_of<'a>(
     alloc: Global,
+    sightings: &mut Sightings,
     scope: &RefinementScope<'a>,
     order: &FreeOrder,
     items: &'a [RefinementItem],
@@ -196,7 +235,7 @@ pub(crate) fn wires_of<'a>(
 {
     let mut wires = Wires::new(alloc);
     for item in items {
-        put_wire(alloc, scope, order, item, &mut wires, first)?;
+        put_wire(alloc, sightings, scope, order, item, &mut wires, first)?;
     }
     Ok(wires)
 }

@@ -15,6 +15,7 @@ ghost use Rattle.spec_types.specs.Walks as walks;
 ghost use Rattle.spec_types.specs.Making as making;
 
 use crate::counts::{Counts, size};
+use crate::enumerations::Sightings;
 use crate::fits::is_formula;
 use crate::operators::formula_in;
 use crate::scope::Scope;
@@ -46,6 +47,7 @@ pub(crate) fn start(expr: &Expr) -> u32
 /// What an expression stands for, with its uses. The first type fault in it is noted.
 pub(crate) fn used_expression<'a, 'o>(
     alloc: Global,
+    sightings: &mut Sightings,
     scope: &Scope<'a, 'o>,
     expr: &'a Expr,
     first: &mut FirstSite,
@@ -58,7 +60,7 @@ pub(crate) fn used_expression<'a, 'o>(
 {
     let size = size(expr)?;
     let mut counts = Counts::new(alloc);
-    let typed = typed_expression(alloc, scope, expr, &mut counts, first)?;
+    let typed = typed_expression(alloc, sightings, scope, expr, &mut counts, first)?;
     let ports = counts.port_uses(alloc)?;
     Ok((typed, Uses { size, ports }))
 }
@@ -67,6 +69,7 @@ pub(crate) fn used_expression<'a, 'o>(
 #[tactic(auto, using(crate::proofs::Walking::walk_lemmas))]
 fn formula<'a, 'o>(
     alloc: Global,
+    sightings: &mut Sightings,
     scope: &Scope<'a, 'o>,
     expr: &'a Expr,
     first: &mut FirstSite,
@@ -77,7 +80,7 @@ fn formula<'a, 'o>(
     ensures first { OnOk result (first.new ≡ noted (formula_faults (walks.scope_reading scope.now)
         (tree expr.now)) first.old) }
 {
-    let (typed, uses) = used_expression(alloc, scope, expr, first)?;
+    let (typed, uses) = used_expression(alloc, sightings, scope, expr, first)?;
     note_unless(is_formula(&typed), start(expr), first);
     Ok((formula_in(typed), uses))
 }
@@ -86,6 +89,7 @@ fn formula<'a, 'o>(
 #[tactic(auto, using(crate::proofs::Walking::walk_lemmas))]
 fn contract<'a, 'o>(
     alloc: Global,
+    sightings: &mut Sightings,
     scope: &Scope<'a, 'o>,
     name: &Word,
     assume: &'a Expr,
@@ -98,8 +102,8 @@ fn contract<'a, 'o>(
         ++ formula_faults (walks.scope_reading scope.now) (tree guarantee.now)) first.old) }
 {
     let name = name.text.copy()?;
-    let (assume, assume_uses) = formula(alloc, scope, assume, first)?;
-    let (guarantee, guarantee_uses) = formula(alloc, scope, guarantee, first)?;
+    let (assume, assume_uses) = formula(alloc, sightings, scope, assume, first)?;
+    let (guarantee, guarantee_uses) = formula(alloc, sightings, scope, guarantee, first)?;
     Ok(Contract {
         name,
         assume,
@@ -113,6 +117,7 @@ fn contract<'a, 'o>(
 #[tactic(auto, using(crate::proofs::Making::put_meaning))]
 fn put_contract<'a, 'o>(
     alloc: Global,
+    sightings: &mut Sightings,
     scope: &Scope<'a, 'o>,
     item: &'a InterfaceItem,
     contracts: &mut Contracts,
@@ -134,13 +139,14 @@ fn put_contract<'a, 'o>(
             name,
             assume,
             guarantee,
-        } => contracts.push(contract(alloc, scope, name, assume, guarantee, first)?),
+        } => contracts.push(contract(alloc, sightings, scope, name, assume, guarantee, first)?),
     }
 }
 
 /// The contracts among these items.
 pub(crate) fn contracts_of<'a, 'o>(
     alloc: Global,
+    sightings: &mut Sightings,
     scope: &Scope<'a, 'o>,
     items: &'a [InterfaceItem],
     first: &mut FirstSite,
@@ -152,7 +158,7 @@ pub(crate) fn contracts_of<'a, 'o>(
 {
     let mut contracts = Contracts::new(alloc);
     for item in items {
-        put_contract(alloc, scope, item, &mut contracts, first)?;
+        put_contract(alloc, sightings, scope, item, &mut contracts, first)?;
     }
     Ok(contracts)
 }

@@ -4,7 +4,7 @@ ghost use Rattle.std.specs.Prelude.{◌≡◌, ◌&&◌, IfOk};
 ghost use Rattle.spec_types.specs.TypeFaults as faults;
 ghost use Rattle.spec_types.specs.Walks as walks;
 
-use crate::enumerations::{are_names_of, share_name};
+use crate::enumerations::{NameSet, Sightings, are_names_of, share_name};
 use crate::typed::Typed;
 use oss_syntax::{BinaryWord, PortWord, PrefixWord};
 use port_types::{Interval, NoMemory, PortType};
@@ -43,7 +43,12 @@ fn are_numbers(left: &Typed, right: &Typed) -> bool
 }
 
 /// Two formulas, two numbers, or two picks that share a name.
-fn are_comparable(alloc: Global, left: &Typed, right: &Typed) -> Result<bool, NoMemory>
+fn are_comparable(
+    alloc: Global,
+    sightings: &mut Sightings,
+    left: &Typed,
+    right: &Typed,
+) -> Result<bool, NoMemory>
     ensures { IfOk result (λ fit. fit ≡ faults.are_comparable (walks.typed left.now) (walks.typed right.now)) }
 {
     match left {
@@ -52,7 +57,7 @@ fn are_comparable(alloc: Global, left: &Typed, right: &Typed) -> Result<bool, No
         Typed::Choice(_, names) => match right {
             Typed::Truth(_) => Ok(false),
             Typed::Number(_, _) => Ok(false),
-            Typed::Choice(_, others) => share_name(alloc, names, others),
+            Typed::Choice(_, others) => share_name(alloc, sightings, *names, *others),
         },
     }
 }
@@ -72,6 +77,7 @@ pub(crate) fn admits_operand(word: PrefixWord, operand: &Typed) -> bool
 
 pub(crate) fn admits_operands(
     alloc: Global,
+    sightings: &mut Sightings,
     word: BinaryWord,
     left: &Typed,
     right: &Typed,
@@ -81,8 +87,8 @@ pub(crate) fn admits_operands(
     match word {
         BinaryWord::Plus => Ok(are_numbers(left, right)),
         BinaryWord::Minus => Ok(are_numbers(left, right)),
-        BinaryWord::Equal => are_comparable(alloc, left, right),
-        BinaryWord::NotEqual => are_comparable(alloc, left, right),
+        BinaryWord::Equal => are_comparable(alloc, sightings, left, right),
+        BinaryWord::NotEqual => are_comparable(alloc, sightings, left, right),
         BinaryWord::Less => Ok(are_numbers(left, right)),
         BinaryWord::AtMost => Ok(are_numbers(left, right)),
         BinaryWord::Greater => Ok(are_numbers(left, right)),
@@ -123,10 +129,12 @@ fn is_within(lo: i64, hi: i64, values: Interval) -> bool
     lo <= values.lo && values.hi <= hi
 }
 
-/// Whether an expression may be the value of a port of this type.
+/// Whether an expression may be the value of a port of this type, which may have a number.
 pub(crate) fn admits_source(
     alloc: Global,
+    sightings: &mut Sightings,
     target: &PortType,
+    number: Option<u32>,
     source: &Typed,
 ) -> Result<bool, NoMemory>
     ensures { IfOk result (λ fit. fit ≡ faults.admits_source target.now (walks.typed source.now)) }
@@ -141,7 +149,10 @@ pub(crate) fn admits_source(
         PortType::Enum(names) => match source {
             Typed::Truth(_) => Ok(false),
             Typed::Number(_, _) => Ok(false),
-            Typed::Choice(_, values) => are_names_of(alloc, names.as_slice(), values),
+            Typed::Choice(_, values) => {
+                let names = names.as_slice();
+                are_names_of(alloc, sightings, NameSet { names, number }, values.names)
+            }
         },
     }
 }

@@ -21,6 +21,7 @@ mod walk;
 
 pub use components::{TypedComponents, Types, typed_components};
 pub use counts::Counts;
+pub use enumerations::{NameSet, Sightings};
 pub use laws::typing_is_unique;
 pub use ports::PortRead;
 pub use scope::{PortScope, RefinementScope, Scope};

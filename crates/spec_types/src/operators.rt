@@ -6,10 +6,11 @@ ghost use Rattle.typed_ltl.specs.Formulas.{meaning, number_of, choice_of, Ltl, N
 ghost use Rattle.spec_types.specs.Typing as specs;
 ghost use Rattle.spec_types.specs.Walks as walks;
 
+use crate::enumerations::NameSet;
 use crate::intervals::{differences, sums};
 use crate::typed::Typed;
 use oss_syntax::{BinaryWord, PrefixWord};
-use port_types::{Interval, Name, NoMemory};
+use port_types::{Interval, NoMemory};
 use std::alloc::Global;
 use typed_ltl::{Atom, Formula, Pick, Term};
 
@@ -70,10 +71,10 @@ fn number_equality(left: Term, values: Interval, right: Typed) -> Formula
     }
 }
 
-fn pick_equality(left: Pick, names: &[Name], right: Typed) -> Formula
-    ensures { meaning result ≡ specs.equality (specs.Pick (choice_of left) names.now) (walks.typed right.entry) }
+fn pick_equality(left: Pick, set: NameSet, right: Typed) -> Formula
+    ensures { meaning result ≡ specs.equality (specs.Pick (choice_of left) set.entry.names.now) (walks.typed right.entry) }
 {
-    let _ = names;
+    let _ = set;
     match right {
         Typed::Truth(_) => Formula::False,
         Typed::Number(_, _) => Formula::False,
@@ -88,7 +89,7 @@ pub(crate) fn equality(alloc: Global, left: Typed, right: Typed) -> Result<Formu
     match left {
         Typed::Truth(formula) => formula_equality(alloc, formula, right),
         Typed::Number(term, values) => Ok(number_equality(term, values, right)),
-        Typed::Choice(pick, names) => Ok(pick_equality(pick, names, right)),
+        Typed::Choice(pick, set) => Ok(pick_equality(pick, set, right)),
     }
 }
 

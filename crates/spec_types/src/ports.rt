@@ -6,6 +6,7 @@ ghost use Rattle.typed_ltl.specs.Formulas.{meaning, Ltl};
 ghost use Rattle.spec_types.specs.Typing as specs;
 ghost use Rattle.spec_types.specs.Walks as walks;
 
+use crate::enumerations::NameSet;
 use crate::operators::{equality, negated};
 use crate::typed::Typed;
 use oss_syntax::{PortWord, Word};
@@ -13,11 +14,12 @@ use port_types::{Interval, NoMemory, PortId, PortType};
 use std::alloc::Global;
 use typed_ltl::{Atom, Formula, Pick, Term};
 
-/// A port as it is read in an expression: its number there, and its type.
+/// A port as it is read in an expression: its number there, and its type, with the number of the type.
 #[derive(Clone, Copy)]
 pub struct PortRead<'a> {
     pub number: PortId,
     pub kind: &'a PortType,
+    pub type_number: u32,
 }
 
 /// The port, now or in the next valuation.
@@ -34,7 +36,13 @@ pub(crate) fn read_port<'a>(port: PortRead<'a>, next: bool) -> Typed<'a>
                 hi: i64::from(*hi),
             },
         ),
-        PortType::Enum(names) => Typed::Choice(Pick::Port { port: number, next }, names.as_slice()),
+        PortType::Enum(names) => Typed::Choice(
+            Pick::Port { port: number, next },
+            NameSet {
+                names: names.as_slice(),
+                number: Some(port.type_number),
+            },
+        ),
     }
 }
 
@@ -49,7 +57,14 @@ pub(crate) fn read_name<'a>(
         Some(port) => Ok(read_port(port, false)),
         None => {
             let copy = name.text.copy()?;
-            Ok(Typed::Choice(Pick::Name(copy), std::slice::from_ref(&name.text)))
+            let names = std::slice::from_ref(&name.text);
+            Ok(Typed::Choice(
+                Pick::Name(copy),
+                NameSet {
+                    names,
+                    number: None,
+                },
+            ))
         }
     }
 }

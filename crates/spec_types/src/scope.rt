@@ -14,11 +14,12 @@ use spec_model::{FreeOrder, OwnPort, Target};
 use spec_names::PlaceTable;
 use sqlite_items::at;
 
-/// The ports of an interface, and the places of their names among them.
+/// The ports of an interface, the places of their names among them, and the number of the first one's type.
 #[derive(Clone, Copy)]
 pub struct PortScope<'a> {
     pub table: &'a PlaceTable,
     pub ports: &'a [OwnPort],
+    pub first_type: u32,
 }
 
 /// What a refinement sees: the own ports, the places of the names of subcomponents, for each subcomponent the
@@ -39,11 +40,12 @@ pub enum Scope<'a, 'o> {
     Connection(RefinementScope<'a>, &'o FreeOrder),
 }
 
-/// A port with its place among those of its interface.
+/// A port with its place among those of its interface, and the number of its type.
 #[derive(Clone, Copy)]
 pub struct FoundPort<'a> {
     pub place: u32,
     pub port: &'a OwnPort,
+    pub type_number: u32,
 }
 
 /// The first port of this name.
@@ -54,7 +56,11 @@ pub(crate) fn find_port<'a>(scope: PortScope<'a>, name: &str) -> Option<FoundPor
         None => None,
         Some(place) => match at(scope.ports, place as usize) {
             None => None,
-            Some(port) => Some(FoundPort { place, port }),
+            Some(port) => Some(FoundPort {
+                place,
+                port,
+                type_number: scope.first_type.wrapping_add(place),
+            }),
         },
     }
 }
@@ -97,6 +103,7 @@ fn own_port<'a>(found: Option<FoundPort<'a>>) -> Option<PortRead<'a>>
         Some(found) => Some(PortRead {
             number: PortId(found.place),
             kind: &found.port.kind,
+            type_number: found.type_number,
         }),
     }
 }
@@ -126,6 +133,7 @@ fn free_port<'a>(
                 Ok(Some(PortRead {
                     number,
                     kind: &found.port.kind,
+                    type_number: found.type_number,
                 }))
             } else {
                 Ok(None)

@@ -11,15 +11,15 @@ use spec_names::{Names, names_of};
 use std::alloc::Global;
 use std::test::Fail;
 
-/// Three enumerations of which tables are made: the first two share their last name alone.
+/// Three enumerations of which tables are made: the first two share a name alone, at different places.
 const LEFT: [&str; 17] = [
     "l1", "l2", "l3", "l4", "l5", "l6", "l7", "l8", "l9", "l10", "l11", "l12", "l13", "l14", "l15",
     "l16", "both",
 ];
 
 const RIGHT: [&str; 17] = [
-    "r1", "r2", "r3", "r4", "r5", "r6", "r7", "r8", "r9", "r10", "r11", "r12", "r13", "r14", "r15",
-    "r16", "both",
+    "r1", "r2", "both", "r4", "r5", "r6", "r7", "r8", "r9", "r10", "r11", "r12", "r13", "r14",
+    "r15", "r16", "r17",
 ];
 
 const APART: [&str; 17] = [
@@ -167,6 +167,7 @@ fn operands_that_do_not_fit(rt: HostRuntime) -> Result<(), Fail> {
 fn long_enumerations(rt: HostRuntime) -> Result<(), Fail> {
     let alloc = rt.alloc();
     assert_eq!(rt; mismatch(alloc, "left", BinaryWord::Equal, "right")?, 0);
+    assert_eq!(rt; mismatch(alloc, "left", BinaryWord::Equal, "both")?, 0);
     assert_eq!(rt; mismatch(alloc, "left", BinaryWord::Equal, "apart")?, 20);
     Ok(())
 }

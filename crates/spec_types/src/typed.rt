@@ -1,7 +1,8 @@
 //! Typed expressions: a formula, a term with its interval, or a pick with its names. It touches nothing
 //! outside.
 
-use port_types::{Interval, Name};
+use crate::enumerations::NameSet;
+use port_types::Interval;
 use typed_ltl::{Formula, Pick, Term};
 
 /// A formula, a term with the interval of its values, or a pick with the names that it may be.
@@ -9,5 +10,5 @@ use typed_ltl::{Formula, Pick, Term};
 pub enum Typed<'a> {
     Truth(Formula),
     Number(Term, Interval),
-    Choice(Pick, &'a [Name]),
+    Choice(Pick, NameSet<'a>),
 }

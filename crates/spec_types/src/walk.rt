@@ -1,7 +1,7 @@
 //! One walk over an expression, which gives what it stands for, counts the ports that it reads, and notes
 //! where its types do not fit: `typed_expression`. It touches nothing outside.
 
-ghost use Rattle.std.specs.Prelude.{◌≡◌, pos, IfOk, OnOk, option_map};
+ghost use Rattle.std.specs.Prelude.{◌≡◌, Bool, true, pos, IfOk, OnOk, option_map};
 ghost use Rattle.oss_syntax.specs.Expressions.{tree};
 ghost use Rattle.spec_names.specs.Noting.{noted};
 ghost use Rattle.spec_types.specs.Typing as typing;
@@ -10,6 +10,7 @@ ghost use Rattle.spec_types.specs.Uses as uses;
 ghost use Rattle.spec_types.specs.Walks as walks;
 
 use crate::counts::Counts;
+use crate::enumerations::Sightings;
 use crate::fits::{admits_operand, admits_operands, admits_port};
 use crate::operators::{before, between};
 use crate::ports::{PortRead, of_wanted, read_name};
@@ -30,6 +31,22 @@ pub(crate) fn note_unless(fits: bool, offset: u32, first: &mut FirstSite)
             kind: FaultKind::F16,
             offset,
         });
+    }
+}
+
+/// Whether a type mismatch at this offset changes nothing, since a fault that it does not go before is known.
+pub(crate) fn is_settled(offset: u32, first: &FirstSite) -> bool
+    ensures { result ≡ true → ((fits : Bool) → first.now ≡ noted (faults.mismatch_unless fits offset) first.now) }
+{
+    match first.get() {
+        None => false,
+        Some(site) => {
+            let mismatch = FaultSite {
+                kind: FaultKind::F16,
+                offset,
+            };
+            !mismatch.goes_before(site)
+        }
     }
 }
 
@@ -116,9 +133,30 @@ fn prefixed<'a>(
     before(alloc, word, operand)
 }
 
+/// Notes a type mismatch, unless the operands fit or an earlier fault is known.
+fn note_operands(
+    alloc: Global,
+    sightings: &mut Sightings,
+    word: BinaryWord,
+    left: &Typed,
+    right: &Typed,
+    offset: u32,
+    first: &mut FirstSite,
+) -> Result<(), NoMemory>
+    ensures { OnOk result (first.new ≡ noted (faults.mismatch_unless (faults.admits_operands word
+        (walks.typed left.now) (walks.typed right.now)) offset) first.old) }
+{
+    if !is_settled(offset, first) {
+        let fit = admits_operands(alloc, sightings, word, left, right)?;
+        note_unless(fit, offset, first);
+    }
+    Ok(())
+}
+
 /// An operator between its operands.
 fn combined<'a>(
     alloc: Global,
+    sightings: &mut Sightings,
     word: BinaryWord,
     left: Typed<'a>,
     right: Typed<'a>,
@@ -131,8 +169,7 @@ fn combined<'a>(
         ≡ noted (faults.mismatch_unless (faults.admits_operands word (walks.typed left.entry)
         (walks.typed right.entry)) offset) first.old) }
 {
-    let fit = admits_operands(alloc, word, &left, &right)?;
-    note_unless(fit, offset, first);
+    note_operands(alloc, sightings, word, &left, &right, offset, first)?;
     between(alloc, word, left, right)
 }
 
@@ -141,6 +178,7 @@ fn combined<'a>(
 #[tactic(auto, using(crate::proofs::Walking::walk_lemmas))]
 pub fn typed_expression<'a, 'o>(
     alloc: Global,
+    sightings: &mut Sightings,
     scope: &Scope<'a, 'o>,
     expr: &'a Expr,
     counts: &mut Counts,
@@ -166,7 +204,7 @@ pub fn typed_expression<'a, 'o>(
         Expr::Numeral(value, _) => Ok(numeral(*value)),
         Expr::Truth(value, _) => Ok(truth(*value)),
         Expr::Brackets(inside, _) => {
-            let typed = typed_expression(alloc, scope, inside.get(), counts, first)?;
+            let typed = typed_expression(alloc, sightings, scope, inside.get(), counts, first)?;
             Ok(typed)
         }
         Expr::OfPort(word, name, _) => {
@@ -175,14 +213,14 @@ pub fn typed_expression<'a, 'o>(
             Ok(typed)
         }
         Expr::Prefix(word, operand, span) => {
-            let operand = typed_expression(alloc, scope, operand.get(), counts, first)?;
+            let operand = typed_expression(alloc, sightings, scope, operand.get(), counts, first)?;
             let typed = prefixed(alloc, *word, operand, span.start, first)?;
             Ok(typed)
         }
         Expr::Binary(word, left, right, span) => {
-            let left = typed_expression(alloc, scope, left.get(), counts, first)?;
-            let right = typed_expression(alloc, scope, right.get(), counts, first)?;
-            let typed = combined(alloc, *word, left, right, span.start, first)?;
+            let left = typed_expression(alloc, sightings, scope, left.get(), counts, first)?;
+            let right = typed_expression(alloc, sightings, scope, right.get(), counts, first)?;
+            let typed = combined(alloc, sightings, *word, left, right, span.start, first)?;
             Ok(typed)
         }
     }

@@ -5,4 +5,4 @@ use Rattle.spec_types.proofs.enumerations.put_name.Goals as goal
 
 pub returns : goal.returns
 returns c text =
-    table_with _ _ c.args.name.now text 0 (c.in_ok-add.ensures.ok ∙ ap (λ name. with_place c.args.table.now name 0) c.as_str.ensures)
+    table_with _ _ c.args.name.now text c.args.place (c.in_ok-add.ensures.ok ∙ ap (λ name. with_place c.args.table.now name c.args.place) c.as_str.ensures)
