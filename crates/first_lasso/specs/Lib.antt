@@ -1,0 +1,6 @@
+pub mod Lassos
+pub mod FirstLassos
+pub mod FormulaPorts
+pub mod UsedPorts
+pub mod Laws
+pub mod Examples
