@@ -23,10 +23,10 @@ use Rattle.oss_syntax.specs.declared.expression.BinaryWord.TheVariants as binary
 use Rattle.oss_syntax.specs.declared.expression.Role.TheVariants as roles
 use Rattle.oss_syntax.specs.Items.{IsBound, IsNextName, IsType, direction, IsItem, IsTarget, IsPart, IsNextPart, IsParts, IsRefinementItem}
 use Rattle.oss_syntax.specs.Steps.{Many}
-use Rattle.oss_syntax.specs.Texts.{IsSystem, IsRefinement, IsComponent}
+use Rattle.oss_syntax.specs.Texts.{IsSystem, IsRefinement, IsComponent, IsText}
 use Rattle.oss_syntax.specs.Trees.{Item, Port, Contract, RefinementItemTree, Sub, Connection, Refined, Component}
 use Rattle.oss_printer.specs.Canonical.{direction_text, canonical_text}
-use Rattle.oss_printer.specs.Laws.{CanonicalTextReadsBack}
+use Rattle.oss_printer.specs.Laws.{ReadsBack}
 use Rattle.oss_printer.proofs.Chunks.{word, numeral, symbol, blank, after, terminals_from, terminals_read}
 use Rattle.oss_printer.proofs.Cutting.{decimal_value}
 use Rattle.oss_printer.proofs.CutForms.{canonical_cut}
@@ -321,7 +321,8 @@ canonical_terminals components =
     ap (λ t. terminals_of t (tokens_from 0 (canonical_pieces components))) (sym (canonical_joined components))
     ∙ terminals_read (canonical_pieces components)
 
-pub reads_back : CanonicalTextReadsBack
+pub reads_back : (bytes : List ℕ) (tokens : List Token) (components : List Component) → AreTokens bytes tokens
+    → IsText (terminals_of bytes tokens) components → ReadsBack components
 reads_back bytes tokens components are text =
     let fits : Each FitsComponent components = fits_text components (terminals_of bytes tokens) text (tokens_writable bytes tokens are) in
     let ps = canonical_pieces components in

@@ -17,11 +17,13 @@ pub record ReadsBack (components : List Component) : Type 0 where
   pub text : IsText (terminals_of (canonical_text components) tokens) again
   pub same : bare_components again ≡ bare_components components
 
--- The canonical text of what some text is read as reads back. With the law that a text has one list of tokens, and with
--- the clause of reading that its tree is the only one, reading it gives this specification again.
+-- The canonical text of a specification reads back, where some text is read as the same but for the places of its parts.
+-- With the law that a text has one list of tokens, and with the clause of reading that its tree is the only one, reading
+-- it gives this specification again, where it is no longer than a text may be.
 abbrev pub CanonicalTextReadsBack : Type 0
-CanonicalTextReadsBack = (bytes : List ℕ) (tokens : List Token) (components : List Component)
-    → AreTokens bytes tokens → IsText (terminals_of bytes tokens) components → ReadsBack components
+CanonicalTextReadsBack = (bytes : List ℕ) (tokens : List Token) (read components : List Component)
+    → AreTokens bytes tokens → IsText (terminals_of bytes tokens) read
+    → bare_components components ≡ bare_components read → ReadsBack components
 
 -- Specifications that are the same but for the places of their parts have one canonical text. So the canonical text of
 -- what a canonical text is read as is that text again.

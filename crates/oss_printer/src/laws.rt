@@ -3,8 +3,8 @@
 
 ghost use Rattle.oss_printer.specs.Laws.{CanonicalTextReadsBack, SpansMakeNoDifference};
 
-/// The canonical text of what some text is read as has tokens, and is a text of the same specification but for the
-/// places of its parts.
+/// Where some text is read as a specification, but for the places of its parts, the canonical text has tokens, and is a
+/// text of that specification but for the places of its parts.
 pub fn canonical_text_reads_back()
     ensures { CanonicalTextReadsBack }
 {}

@@ -98,8 +98,8 @@ fn append_components(text: &mut Text, components: &[TreeComponent]) -> Result<()
 /// The canonical text of a specification.
 ///
 /// The answer is the bytes of the text, and the time is linear in their number. The only error is want of memory.
-/// Where some text is read as this tree, the law `canonical_text_reads_back` says that the canonical text is read as
-/// the same tree but for its spans.
+/// Where some text is read as this tree but for its spans, the law `canonical_text_reads_back` says that the canonical
+/// text is read as the same tree but for its spans.
 pub fn print(alloc: Global, tree: &SpecTree) -> Result<Text, NoMemory>
     ensures { IfOk result (λ text. text ≡ canonical_text (component_trees tree.now)) }
 {
