@@ -10,4 +10,4 @@ mod tests;
 
 pub use deciding::verdicts;
 pub use laws::{contracts_compose, first_is_least, levels_are_decided, proved_systems_are_safe};
-pub use name::{ObligationName, component_name};
+pub use name::{ObligationName, component_name, contract_name, sub_name};

@@ -36,7 +36,8 @@ pub fn component_name(spec: &Spec, c: ComponentId) -> &str
     }
 }
 
-fn contract_name(spec: &Spec, c: ComponentId, d: ContractId) -> &str
+/// The name of a contract of a component, the empty one where there is none.
+pub fn contract_name(spec: &Spec, c: ComponentId, d: ContractId) -> &str
     ensures { result.now ≡ name_of_contract spec.now c d }
 {
     match at(spec.contracts_of(c), d.0 as usize) {
@@ -45,7 +46,8 @@ fn contract_name(spec: &Spec, c: ComponentId, d: ContractId) -> &str
     }
 }
 
-fn sub_name(spec: &Spec, c: ComponentId, s: SubId) -> &str
+/// The name of a subcomponent of a component, the empty one where there is none.
+pub fn sub_name(spec: &Spec, c: ComponentId, s: SubId) -> &str
     ensures { result.now ≡ name_of_sub spec.now c s }
 {
     match at(spec.subs_of(c), s.0 as usize) {

@@ -12,7 +12,7 @@ use Rattle.obligations.specs.Verdicts.{IsVerdict, AreVerdicts, AreAssumesVerdict
 use Rattle.report.specs.declared.answers.Answer.{Answer}
 use Rattle.report.specs.Answers.{says_undecided, is_undecided}
 use Rattle.report.specs.AllAnswers.{AreAnswersFrom, answers_from, level_answers}
-use Rattle.ocra_tool.specs.Outcomes.{NoneUndecided}
+use Rattle.ocra_tool.specs.Reporting.{NoneUndecided}
 
 -- Where single valuations decide, nothing is undecided.
 

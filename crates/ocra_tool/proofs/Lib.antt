@@ -1,5 +1,10 @@
 pub mod Built
 pub mod BuiltTables
+pub mod Checked
 pub mod Decided
 pub mod Excluded
+pub mod Reading
+pub mod Replayed
+pub mod Running
 pub mod Saying
+pub mod Telling

@@ -1,8 +1,9 @@
--- What the bytes of a file are: a specification that `check` decides, or a text that is refused for a fault (the phases
--- of a translator: Aho, Lam, Sethi and Ullman, Compilers: Principles, Techniques, and Tools, 2006).
+-- What the bytes of a file are: a specification, or a text that is refused for a fault (the phases of a translator:
+-- Aho, Lam, Sethi and Ullman, Compilers: Principles, Techniques, and Tools, 2006).
 --
--- The faults come in phases: the size of the file, its tokens, its syntax, then its names, types and limits, and last
--- what isn't built yet. A phase has a fault only where no earlier one has, and the first of its faults is told.
+-- The faults come in phases: the size of the file, its tokens, its syntax, then its names, types and limits; and for
+-- `check` last what isn't built yet. A phase has a fault only where no earlier one has, and the first of its faults is
+-- told.
 use Rattle.std.specs.Prelude.{◌≡◌, ℕ, ◌<◌, ◌≤◌, ◌⊎◌, true, false, List, length, Some, None}
 use Rattle.oss_base.specs.Limits.{most_bytes}
 use Rattle.oss_base.specs.declared.fault.Fault.{Fault}
@@ -36,16 +37,23 @@ pub record IsSpecOf (bytes : List ℕ) (components : List Component) (spec : Spe
   pub faultless : tree_site (length bytes) components ≡ None
   pub stands : Stands bytes components spec
 
--- The same, and it is decided.
+-- The same for some tree.
+pub record IsSpecification (bytes : List ℕ) (spec : Spec) : Type 0 where
+  pub components : List Component
+  pub tree : IsTreeOf bytes components
+  pub of : IsSpecOf bytes components spec
+
+-- This is the only specification that the bytes are.
+pub record IsSoleSpecification (bytes : List ℕ) (spec : Spec) : Type 0 where
+  pub is : IsSpecification bytes spec
+  pub only : (other : Spec) → IsSpecification bytes other → other ≡ spec
+
+-- The bytes are this specification, and `check` decides it.
 pub record IsSystemOf (bytes : List ℕ) (spec : Spec) : Type 0 where
   pub components : List Component
   pub tree : IsTreeOf bytes components
   pub of : IsSpecOf bytes components spec
   pub built : is_built spec components ≡ true
-
--- the bytes are a specification that is decided
-abbrev pub Accepted : List ℕ → Type 0
-Accepted bytes = (spec : Spec) × IsSystemOf bytes spec
 
 -- a fault at the start of the text
 abbrev pub at_start : FaultKind → Fault
@@ -84,11 +92,7 @@ pub record IsNotBuilt (bytes : List ℕ) (fault : Fault) : Type 0 where
   pub unbuilt : is_built spec components ≡ false
   pub is : fault ≡ at_start F0
 
--- what the bytes of a file are refused for
+-- what the bytes of a file are refused for, whatever is asked of it
 abbrev pub IsFaultOf : List ℕ → Fault → Type 0
 IsFaultOf bytes fault = IsSizeFault bytes fault ⊎ IsLexingFault bytes fault ⊎ IsSyntaxFault bytes fault
-    ⊎ IsTreeFault bytes fault ⊎ IsNotBuilt bytes fault
-
--- the bytes are refused for some fault
-abbrev pub Refused : List ℕ → Type 0
-Refused bytes = (fault : Fault) × IsFaultOf bytes fault
+    ⊎ IsTreeFault bytes fault

@@ -1,16 +1,32 @@
 -- What is always so of files.
 use Rattle.std.specs.Prelude.{◌≡◌, ℕ, true, List}
+use Rattle.oss_base.specs.declared.fault.Fault.{Fault}
 use Rattle.oss_syntax.specs.Trees.{Component}
+use Rattle.replay.specs.declared.named.NamedLasso.{NamedLasso}
+use Rattle.replay.specs.Judgements.{HasModerateTerms}
+use Rattle.replay.specs.LassoFiles.{IsLasso}
 use Rattle.spec_model.specs.declared.spec.Spec.{Spec}
 use Rattle.spec_model.specs.Propositional.{HasPropositionalLevels}
-use Rattle.ocra_tool.specs.Files.{Accepted, Refused, IsTreeOf, IsSpecOf}
+use Rattle.ocra_tool.specs.Files.{IsTreeOf, IsSpecOf, IsSpecification}
 use Rattle.ocra_tool.specs.NotBuilt.{is_built}
+use Rattle.ocra_tool.specs.Tasks.{SecondFault, IsSound, IsFaultFor, AreSound, IsSecondFaultFor}
+use Rattle.ocra_tool.specs.Words.{Task}
 
--- A file that is accepted has no fault.
-abbrev pub AcceptedHasNoFault : Type 0
-AcceptedHasNoFault = (bytes : List ℕ) → Accepted bytes → Refused bytes → ⊥
+-- A file without a fault for a task has none.
+abbrev pub SoundHasNoFault : Type 0
+SoundHasNoFault = (task : Task) (bytes : List ℕ) (fault : Fault) → IsSound task bytes → IsFaultFor task bytes fault → ⊥
+
+-- The same of the second file.
+abbrev pub SoundHasNoSecondFault : Type 0
+SoundHasNoSecondFault = (task : Task) (bytes second : List ℕ) (fault : SecondFault) → AreSound task bytes second
+    → IsSecondFaultFor task bytes second fault → ⊥
 
 -- The levels of a specification that is decided are over truth values.
 abbrev pub BuiltIsPropositional : Type 0
 BuiltIsPropositional = (bytes : List ℕ) (components : List Component) (spec : Spec) → IsTreeOf bytes components
     → IsSpecOf bytes components spec → is_built spec components ≡ true → HasPropositionalLevels spec
+
+-- Terms stay moderate where a lasso of a file's specification is judged.
+abbrev pub ReplaysAreModerate : Type 0
+ReplaysAreModerate = (bytes second : List ℕ) (spec : Spec) (named : NamedLasso) → IsSpecification bytes spec
+    → IsLasso spec second named → HasModerateTerms spec named

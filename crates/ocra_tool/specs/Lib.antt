@@ -7,5 +7,8 @@ pub mod Laws
 pub mod Lines
 pub mod NotBuilt
 pub mod Outcomes
-pub mod Words
+pub mod Replays
+pub mod Reporting
 pub mod Statuses
+pub mod Tasks
+pub mod Words

@@ -12,6 +12,10 @@ abbrev pub fault_line : List ℕ → ℕ → ℕ → ℕ → List ℕ → List �
 fault_line name line column number text = name ++ codes ":" ++ decimal line ++ codes ":" ++ decimal column
     ++ codes ": F" ++ decimal number ++ codes " " ++ text ++ codes "\n"
 
+-- A lasso file breaks at this line.
+abbrev pub lasso_break_line : List ℕ → ℕ → List ℕ
+lasso_break_line name line = name ++ codes ":" ++ decimal line ++ codes ": lasso text\n"
+
 -- A file could not be read.
 abbrev pub read_fault_line : List ℕ → List ℕ
 read_fault_line name = name ++ codes ": read fault\n"

@@ -13,6 +13,8 @@ use Rattle.std.specs.declared.alloc.Global.{Global}
 pub data Task : Type 0 where
   -- the report on the file of this name
   CheckFile : List ℕ → Task
+  -- what the lasso in the second of these files says of the contracts of the first
+  ReplayLasso : List ℕ → List ℕ → Task
 
 -- A word that stands for itself: it is not empty and does not begin with `-`.
 abbrev pub is_operand : List ℕ → Bool
@@ -22,6 +24,8 @@ is_operand (byte ∷ bytes) = not (byte == 45)
 -- The task of a command with these operands.
 abbrev pub task_with : List ℕ → List (List ℕ) → Option Task
 task_with command (file ∷ []) = if bytes_eq command (codes "check") then Some (CheckFile file) else None
+task_with command (file ∷ lasso ∷ []) =
+    if bytes_eq command (codes "replay") then Some (ReplayLasso file lasso) else None
 task_with command operands = None
 
 -- The task that the words mean, if they mean one.

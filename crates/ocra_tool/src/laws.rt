@@ -1,14 +1,18 @@
-//! Laws about files, for the top call. None of these functions has code.
+//! Laws about files, for the top call and the commands. None of these functions has code.
 
-ghost use Rattle.ocra_tool.specs.Laws.{AcceptedHasNoFault, BuiltIsPropositional};
+ghost use Rattle.ocra_tool.specs.Laws.{SoundHasNoFault, SoundHasNoSecondFault, BuiltIsPropositional};
+ghost use Rattle.ocra_tool.specs.Laws.{ReplaysAreModerate};
 
-/// A file that is accepted has no fault. (A law without code: who calls this function may rely on it.)
-pub fn accepted_has_no_fault()
-    ensures { AcceptedHasNoFault }
+/// Files without a fault for a task have none: neither FILE nor the second file. (A law without code: who calls this
+/// function may rely on it.)
+pub fn sound_files_have_no_fault()
+    ensures first { SoundHasNoFault }
+    ensures second { SoundHasNoSecondFault }
 {
     oss_lexer::one_token_list();
     oss_lexer::tokens_without_fault();
     architecture::stands_is_unique();
+    replay::lassos_dont_break();
 }
 
 /// The levels of a specification that is decided are over truth values. (A law without code.)
@@ -17,4 +21,12 @@ pub fn built_is_propositional()
 {
     architecture::texts_have_state_sources();
     architecture::resolved_is_well_formed();
+}
+
+/// Terms stay moderate where a lasso of a file's specification is judged. (A law without code.)
+pub fn replays_are_moderate()
+    ensures { ReplaysAreModerate }
+{
+    architecture::resolved_has_values();
+    replay::lassos_are_moderate();
 }

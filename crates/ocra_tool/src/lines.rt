@@ -2,7 +2,7 @@
 
 ghost use Rattle.std.specs.Prelude.{◌≡◌, ◌++◌, IfOk};
 ghost use Rattle.ocra_tool.specs.Outcomes.{fault_line_of};
-ghost use Rattle.ocra_tool.specs.Lines.{Says, no_memory_line, read_fault_line, usage_line, write_fault_line};
+ghost use Rattle.ocra_tool.specs.Lines.{Says, lasso_break_line as line_of_break, no_memory_line, read_fault_line, usage_line, write_fault_line};
 
 use itoa::Buffer;
 use oss_base::Fault;
@@ -57,6 +57,19 @@ fn say_two<E: Sink>(err: &mut E, first: &[u8], second: &[u8])
         Ok(()) => say(err, second),
         Err(Failed) => {}
     }
+}
+
+/// The line on a lasso file that breaks at this line.
+pub fn lasso_break_line(alloc: Global, name: &str, at: u32) -> Result<Text, NoMemory>
+    ensures { IfOk result (λ line. line ≡ line_of_break name.now at) }
+{
+    let mut number = Buffer::new();
+    let mut line = Text::new(alloc);
+    line.append(name.as_bytes())?;
+    line.append(b":")?;
+    line.append(number.format(at).as_bytes())?;
+    line.append(b": lasso text\n")?;
+    Ok(line)
 }
 
 /// The line on a file that is refused for this fault.

@@ -6,10 +6,12 @@
 
 mod arguments;
 mod check;
+mod files;
 mod laws;
 mod lines;
 mod not_built;
 mod outcome;
+mod replaying;
 #[cfg(test)]
 mod tests;
 mod top;

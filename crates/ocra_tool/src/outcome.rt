@@ -2,7 +2,7 @@
 
 use port_types::Text;
 
-/// What a check writes, and the status that it ends with.
+/// What a command writes, and the status that it ends with.
 #[derive(Debug, Drop)]
 pub struct Report {
     pub text: Text,
@@ -16,6 +16,8 @@ pub enum Outcome<'a> {
     Done(Report),
     /// The file is refused, and this line says for which fault.
     Refused(Text),
+    /// The second file is refused, and this line says for which fault.
+    SecondRefused(Text),
     /// The file of this name could not be read.
     ReadFault { file: &'a str },
     NoMemory,

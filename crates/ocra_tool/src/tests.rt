@@ -35,7 +35,7 @@ const USAGE: &str =
     "usage: ocra_tool check|tree|certify FILE [--depth 1..32] [--width 1..3] | print FILE | replay FILE LASSO | recheck FILE CERT | sample N\n";
 
 /// Command lines that mean nothing, each a line of words.
-const MEANINGLESS: [&str; 12] = [
+const MEANINGLESS: [&str; 15] = [
     "",
     "check",
     "check \"\"",
@@ -45,6 +45,9 @@ const MEANINGLESS: [&str; 12] = [
     "check x.oss --depth 8 --depth 8",
     "print x.oss --width 2",
     "tree x.oss",
+    "replay x.oss",
+    "replay x.oss \"\"",
+    "replay x.oss l.txt -8",
     "Check x.oss",
     "--help",
     "\"\" x.oss",

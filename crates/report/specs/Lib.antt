@@ -1,3 +1,4 @@
 pub mod Answers
 pub mod CheckTexts
 pub mod AllAnswers
+pub mod JudgementTexts

@@ -3,6 +3,7 @@
 
 mod answers;
 mod check_text;
+mod judgement_text;
 mod laws;
 #[cfg(test)]
 mod tests;
@@ -10,5 +11,6 @@ mod valuing;
 
 pub use answers::{Answer, Answers, status_of};
 pub use check_text::render_check;
+pub use judgement_text::render_judgements;
 pub use laws::{answers_are_unique, success_is_safe};
 pub use valuing::answer_by_valuations;

@@ -1,9 +1,10 @@
 //! Texts written by hand.
 
-use crate::{Answer, Answers, answer_by_valuations, render_check, status_of};
+use crate::{Answer, Answers, answer_by_valuations, render_check, render_judgements, status_of};
 use obligations::ObligationName;
 use oss_base::{ComponentId, ContractId, ItemId, Place, SubId};
 use port_types::{Name, Names, NoMemory, PortId, PortType, Value};
+use replay::{Judgement, Judgements};
 use spec_model::{
     Component, Components, Contract, Contracts, Item, ItemParts, Items, OwnPort, OwnPorts,
     PortUses, Source, Spec, Sub, Subs, Target, Uses, Wire, Wires,
@@ -288,5 +289,39 @@ fn specifications_over_truth_values_are_answered(rt: HostRuntime) -> Result<(), 
     let answers = answer_by_valuations(alloc, &spec)?;
     assert_eq!(rt; render_check(alloc, &spec, &answers)?.as_slice(), NEVER_MET);
     assert_eq!(rt; status_of(&answers), 1);
+    Ok(())
+}
+
+/// What is said of the first contract of the system, or of a subcomponent.
+fn judgement(sub: Option<u32>, assume: bool, guarantee: bool) -> Judgement {
+    Judgement {
+        component: ComponentId(0),
+        sub: match sub {
+            Some(sub) => Some(SubId(sub)),
+            None => None,
+        },
+        contract: ContractId(0),
+        assume,
+        guarantee,
+    }
+}
+
+const JUDGED: &[u8] = b"Thr.safe assume true guarantee true
+a.tight assume true guarantee false
+b.tight assume false guarantee true
+";
+
+#[test]
+fn judgements_have_their_text(rt: HostRuntime) -> Result<(), Fail> {
+    let alloc = rt.alloc();
+    let spec = valves(alloc, Formula::True)?;
+    let mut judgements = Judgements::new(alloc);
+    judgements.push(judgement(None, true, true))?;
+    judgements.push(judgement(Some(0), true, false))?;
+    judgements.push(judgement(Some(1), false, true))?;
+    assert_eq!(rt;
+        render_judgements(alloc, &spec, &judgements)?.as_slice(),
+        JUDGED
+    );
     Ok(())
 }

@@ -1,5 +1,5 @@
 use Rattle.oss_syntax.specs.Trees.{component_trees}
-use Rattle.ocra_tool.proofs.Excluded.{Deciding, checked_if}
+use Rattle.ocra_tool.proofs.Checked.{Deciding, checked_if}
 use Rattle.ocra_tool.proofs.check.report_of.Goals as goal
 
 pub returns : goal.returns

@@ -1,31 +1,57 @@
 use Rattle.std.proofs.Common.{sym, ap, ◌∙◌, ◌≡◌, ◌⊎◌, ℕ, List, subst}
 use Rattle.std.specs.Option.{option_map}
-use Rattle.ocra_tool.specs.Words.{task_of}
 use Rattle.oss_io.specs.Outside.{AppendsFront}
 use Rattle.ocra_tool.specs.Commands.{task_meant}
-use Rattle.ocra_tool.proofs.Excluded.{no_accepted, no_refused, front_of_report}
+use Rattle.ocra_tool.specs.Tasks.{IsStatusOf}
+use Rattle.ocra_tool.specs.Words.{Task, task_of}
+use Rattle.ocra_tool.proofs.Running.{sound_not_faulty, faulty_not_sound, faulty_not_second, answered_not_second, second_not_sound, front_of_answer, safe_check}
 use Rattle.ocra_tool.proofs.top.run.Goals as goal
 
-pub returns-in-Refused-clause-complete_accepted : goal.returns-in-Refused-clause-complete_accepted
-returns-in-Refused-clause-complete_accepted g c = λ q r. no_accepted c.accepted_has_no_fault.ensures (task_of c.args.words.now)
+pub returns-in-Refused-clause-complete_sound : goal.returns-in-Refused-clause-complete_sound
+returns-in-Refused-clause-complete_sound g c = λ q r. faulty_not_sound c.sound_files_have_no_fault.ensures.first (task_of c.args.words.now)
     (task_meant c.in-Some.command) (sym c.parse_words.ensures ∙ ap (option_map task_meant) c.in-Some.is)
-    (g.F.Shelf.held c.args.shelf.now) c.in-Refused.ensures.means.0 c.in-Refused.ensures.means.2 ((3 ≡ 0) ⊎ (3 ≡ 1) ⊎ (3 ≡ 7))
+    (g.F.Shelf.held c.args.shelf.now) c.in-Refused.ensures.means.0 c.in-Refused.ensures.means.2 (λ (t : Task). IsStatusOf t 3 ⊎ (3 ≡ 7))
 
-pub returns-in-Ok-clause-complete_refused : goal.returns-in-Ok-clause-complete_refused
-returns-in-Ok-clause-complete_refused g c = λ q. no_refused c.accepted_has_no_fault.ensures (task_of c.args.words.now) (task_meant c.in-Some.command)
-    (sym c.parse_words.ensures ∙ ap (option_map task_meant) c.in-Some.is)
-    (g.F.Shelf.held c.args.shelf.now) c.in-Done.report.text c.in-Done.report.status c.in-Done.ensures.means.1
-    ((c.in-Done.report.status ≡ 3) ⊎ (c.in-Done.report.status ≡ 7))
-
-pub returns-in-Done-clause-complete_refused : goal.returns-in-Done-clause-complete_refused
-returns-in-Done-clause-complete_refused g c = λ q. no_refused c.accepted_has_no_fault.ensures (task_of c.args.words.now)
+pub returns-in-Refused-clause-complete_second_refused : goal.returns-in-Refused-clause-complete_second_refused
+returns-in-Refused-clause-complete_second_refused g c = λ q. faulty_not_second c.sound_files_have_no_fault.ensures.first (task_of c.args.words.now)
     (task_meant c.in-Some.command) (sym c.parse_words.ensures ∙ ap (option_map task_meant) c.in-Some.is)
-    (g.F.Shelf.held c.args.shelf.now) c.in-Done.report.text c.in-Done.report.status c.in-Done.ensures.means.1 ((6 ≡ 3) ⊎ (6 ≡ 7))
+    (g.F.Shelf.held c.args.shelf.now) c.in-Refused.ensures.means.0 c.in-Refused.ensures.means.2 ((3 ≡ 8) ⊎ (3 ≡ 7))
+
+pub returns-in-SecondRefused-clause-complete_sound : goal.returns-in-SecondRefused-clause-complete_sound
+returns-in-SecondRefused-clause-complete_sound g c = λ q r. second_not_sound c.sound_files_have_no_fault.ensures.second (task_of c.args.words.now)
+    (task_meant c.in-Some.command) (sym c.parse_words.ensures ∙ ap (option_map task_meant) c.in-Some.is)
+    (g.F.Shelf.held c.args.shelf.now) c.in-SecondRefused.ensures.means.2 c.in-SecondRefused.ensures.means.5 (λ (t : Task). IsStatusOf t 8 ⊎ (8 ≡ 7))
+
+pub returns-in-Ok-clause-complete_second_refused : goal.returns-in-Ok-clause-complete_second_refused
+returns-in-Ok-clause-complete_second_refused g c = λ q. answered_not_second c.sound_files_have_no_fault.ensures.second (task_of c.args.words.now)
+    (task_meant c.in-Some.command) (sym c.parse_words.ensures ∙ ap (option_map task_meant) c.in-Some.is)
+    (g.F.Shelf.held c.args.shelf.now) c.in-Done.report.text c.in-Done.report.status c.in-Done.ensures.means.2
+    ((c.in-Done.report.status ≡ 8) ⊎ (c.in-Done.report.status ≡ 7))
+
+pub returns-in-Done-clause-complete_second_refused : goal.returns-in-Done-clause-complete_second_refused
+returns-in-Done-clause-complete_second_refused g c = λ q. answered_not_second c.sound_files_have_no_fault.ensures.second (task_of c.args.words.now)
+    (task_meant c.in-Some.command) (sym c.parse_words.ensures ∙ ap (option_map task_meant) c.in-Some.is)
+    (g.F.Shelf.held c.args.shelf.now) c.in-Done.report.text c.in-Done.report.status c.in-Done.ensures.means.2 ((6 ≡ 8) ⊎ (6 ≡ 7))
 
 pub returns-in-Done-clause-write_fault_text : goal.returns-in-Done-clause-write_fault_text
 returns-in-Done-clause-write_fault_text g c = λ six.
-    front_of_report (task_of c.args.words.now) (task_meant c.in-Some.command) (sym c.parse_words.ensures ∙ ap (option_map task_meant) c.in-Some.is)
+    front_of_answer (task_of c.args.words.now) (task_meant c.in-Some.command) (sym c.parse_words.ensures ∙ ap (option_map task_meant) c.in-Some.is)
     (g.F.Shelf.held c.args.shelf.now) c.in-Done.report.text c.in-Done.report.status
     (λ (x : List ℕ). AppendsFront (g.O.Sink.taken c.args.out.now) (g.O.Sink.taken c.write_all.new.sink) x)
     (subst (λ (x : List ℕ). AppendsFront (g.O.Sink.taken c.args.out.now) (g.O.Sink.taken c.write_all.new.sink) x) c.as_slice.ensures c.in-Err.ensures.front)
-    c.in-Done.ensures.means.1
+    c.in-Done.ensures.means.2
+
+pub returns-in-Ok-clause-safe : goal.returns-in-Ok-clause-safe
+returns-in-Ok-clause-safe g c = λ zero file checking.
+    safe_check (task_of c.args.words.now) (task_meant c.in-Some.command) (sym c.parse_words.ensures ∙ ap (option_map task_meant) c.in-Some.is)
+    (g.F.Shelf.held c.args.shelf.now) c.in-Done.report.text c.in-Done.report.status c.in-Done.ensures.means.2 zero file checking
+
+pub returns-in-Ok-clause-complete_refused : goal.returns-in-Ok-clause-complete_refused
+returns-in-Ok-clause-complete_refused g c = λ q. sound_not_faulty c.sound_files_have_no_fault.ensures.first (task_of c.args.words.now)
+    (task_meant c.in-Some.command) (sym c.parse_words.ensures ∙ ap (option_map task_meant) c.in-Some.is)
+    (g.F.Shelf.held c.args.shelf.now) c.in-Done.ensures.means.1 ((c.in-Done.report.status ≡ 3) ⊎ (c.in-Done.report.status ≡ 7))
+
+pub returns-in-Done-clause-complete_refused : goal.returns-in-Done-clause-complete_refused
+returns-in-Done-clause-complete_refused g c = λ q. sound_not_faulty c.sound_files_have_no_fault.ensures.first (task_of c.args.words.now)
+    (task_meant c.in-Some.command) (sym c.parse_words.ensures ∙ ap (option_map task_meant) c.in-Some.is)
+    (g.F.Shelf.held c.args.shelf.now) c.in-Done.ensures.means.1 ((6 ≡ 3) ⊎ (6 ≡ 7))

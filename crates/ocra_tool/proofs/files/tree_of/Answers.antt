@@ -1,5 +1,5 @@
-use Rattle.ocra_tool.proofs.Excluded.{sole_tree, syntax_fault}
-use Rattle.ocra_tool.proofs.check.tree_of.Goals as goal
+use Rattle.ocra_tool.proofs.Reading.{sole_tree, syntax_fault}
+use Rattle.ocra_tool.proofs.files.tree_of.Goals as goal
 
 pub returns-clause-tree : goal.returns-clause-tree
 returns-clause-tree c =
