@@ -1,0 +1,5 @@
+pub mod Words
+pub mod Once
+pub mod Plain
+pub mod Targets
+pub mod FileNames
