@@ -89,10 +89,18 @@ def enumerations():
 
 
 def comparisons():
-    """50,000 comparisons with the last name of an enumeration of 50,000: nothing is kept between them, so this is slow."""
+    """50,000 comparisons with the last name of an enumeration of 50,000."""
     yield HEAD + "INPUT PORT v:{" + ",".join(f"e{n}" for n in range(50_000)) + "};\n"
     for first in range(0, 50_000, 100):
         yield f"CONTRACT c{first} assume: true; guarantee: " + "&".join(["v=e49999"] * 100) + ";\n"
+
+
+def one_pair():
+    """60,000 comparisons of two enumerations of 150,000 names that share one name."""
+    yield HEAD + "INPUT PORT v:{" + ",".join(f"e{n}" for n in range(150_000)) + "};\n"
+    yield "INPUT PORT w:{" + ",".join(f"f{n}" for n in range(149_999)) + ",e1};\n"
+    for first in range(0, 60_000, 100):
+        yield f"CONTRACT c{first} assume: true; guarantee: " + "&".join(["v=w"] * 100) + ";\n"
 
 
 def operands():
@@ -112,8 +120,8 @@ def balanced():
     yield ";\n"
 
 
-CASES = (components, ports, subcomponents, connections, chain, doubling, enumerators, enumerations, comparisons, operands,
-         balanced)
+CASES = (components, ports, subcomponents, connections, chain, doubling, enumerators, enumerations, comparisons, one_pair,
+         operands, balanced)
 
 
 def main():
