@@ -1,5 +1,5 @@
-//! The contracts of a component and of its subcomponents by their places: `contract_at`. It touches nothing
-//! outside.
+//! The contracts of a component and of its subcomponents, and one of them by its place. Main function: `contracts_at`.
+//! It touches nothing outside.
 
 ghost use Rattle.std.specs.Prelude.{◌≡◌};
 ghost use Rattle.std.specs.Option.{option_copied};
@@ -9,7 +9,9 @@ use oss_base::{ComponentId, ContractId, SubId};
 use spec_model::{Contract, Spec};
 use sqlite_items::at;
 
-fn contracts_at(spec: &Spec, c: ComponentId, sub: Option<SubId>) -> &[Contract]
+/// The contracts of the component itself, or of the component of one of its subcomponents, in text order; none where
+/// there is no such subcomponent.
+pub fn contracts_at(spec: &Spec, c: ComponentId, sub: Option<SubId>) -> &[Contract]
     ensures { result.now ≡ contracts_by spec.now c sub }
 {
     match sub {

@@ -16,6 +16,7 @@ mod substituting;
 #[cfg(test)]
 mod tests;
 
+pub use contracts::contracts_at;
 pub use driving::{Driver, Drivers, port_drivers};
 pub use laws::{state_truth_decides, substitution_keeps_truth};
 pub use sizes::{size, size_by};

@@ -16,7 +16,7 @@ first_sound (ReplayLasso file lasso) b s a = (a.0, a.1)
 
 answer_sound : (t : Task) (b s text : List ℕ) (ended : ℕ) → IsAnswerTo t b s text ended → AreSound t b s
 answer_sound (CheckFile file) b s text ended a = (a.report.spec, a.report.system)
-answer_sound (ReplayLasso file lasso) b s text ended a = (a.0.spec, a.0.sole.is, a.0.named, a.0.lasso)
+answer_sound (ReplayLasso file lasso) b s text ended a = (a.0.replay.spec, a.0.sole.is, a.0.replay.named, a.0.replay.lasso)
 
 second_fault_sound : (t : Task) (b s : List ℕ) (fault : SecondFault) → IsSecondFaultFor t b s fault → IsSound t b
 second_fault_sound (CheckFile file) b s fault f = absurd f

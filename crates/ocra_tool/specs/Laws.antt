@@ -7,8 +7,9 @@ use Rattle.replay.specs.Judgements.{HasModerateTerms}
 use Rattle.replay.specs.LassoFiles.{IsLasso}
 use Rattle.spec_model.specs.declared.spec.Spec.{Spec}
 use Rattle.spec_model.specs.Propositional.{HasPropositionalLevels}
-use Rattle.ocra_tool.specs.Files.{IsTreeOf, IsSpecOf, IsSpecification}
+use Rattle.ocra_tool.specs.Files.{IsTreeOf, IsSpecOf, IsSpecification, IsSoleSpecification}
 use Rattle.ocra_tool.specs.NotBuilt.{is_built}
+use Rattle.ocra_tool.specs.Replays.{IsReplayTextOf}
 use Rattle.ocra_tool.specs.Tasks.{SecondFault, IsSound, IsFaultFor, AreSound, IsSecondFaultFor}
 use Rattle.ocra_tool.specs.Words.{Task}
 
@@ -30,3 +31,8 @@ BuiltIsPropositional = (bytes : List ℕ) (components : List Component) (spec : 
 abbrev pub ReplaysAreModerate : Type 0
 ReplaysAreModerate = (bytes second : List ℕ) (spec : Spec) (named : NamedLasso) → IsSpecification bytes spec
     → IsLasso spec second named → HasModerateTerms spec named
+
+-- Two files have one text of judgements.
+abbrev pub ReplaysHaveOneText : Type 0
+ReplaysHaveOneText = (bytes second text other : List ℕ) (spec : Spec) → IsSoleSpecification bytes spec
+    → IsReplayTextOf bytes second text → IsReplayTextOf bytes second other → other ≡ text

@@ -7,15 +7,21 @@ use Rattle.replay.specs.declared.judgement.Judgement.{Judgement}
 use Rattle.replay.specs.LassoFiles.{IsLasso}
 use Rattle.replay.specs.Judgements.{AreJudgements}
 use Rattle.report.specs.JudgementTexts.{judgements_text}
-use Rattle.ocra_tool.specs.Files.{IsSoleSpecification}
+use Rattle.ocra_tool.specs.Files.{IsSpecification, IsSoleSpecification}
 
--- The text tells the judgements of the contracts of the specification that the first bytes are by the lasso that the
--- second bytes mean.
-pub record IsReplayOf (bytes second text : List ℕ) : Type 0 where
+-- The text tells the judgements of the contracts of a specification that the first bytes are by a lasso that the second
+-- bytes mean.
+pub record IsReplayTextOf (bytes second text : List ℕ) : Type 0 where
   pub spec : Spec
-  pub sole : IsSoleSpecification bytes spec
+  pub described : IsSpecification bytes spec
   pub named : NamedLasso
   pub lasso : IsLasso spec second named
   pub judgements : List Judgement
   pub judged : AreJudgements spec named judgements
   pub is : text ≡ judgements_text spec judgements
+
+-- The text is the only such text of these bytes, and the specification the only one that the first bytes are.
+pub record IsReplayOf (bytes second text : List ℕ) : Type 0 where
+  pub replay : IsReplayTextOf bytes second text
+  pub sole : IsSoleSpecification bytes replay.spec
+  pub only : (other : List ℕ) → IsReplayTextOf bytes second other → other ≡ text

@@ -1,7 +1,7 @@
 //! Laws about files, for the top call and the commands. None of these functions has code.
 
 ghost use Rattle.ocra_tool.specs.Laws.{SoundHasNoFault, SoundHasNoSecondFault, BuiltIsPropositional};
-ghost use Rattle.ocra_tool.specs.Laws.{ReplaysAreModerate};
+ghost use Rattle.ocra_tool.specs.Laws.{ReplaysAreModerate, ReplaysHaveOneText};
 
 /// Files without a fault for a task have none: neither FILE nor the second file. (A law without code: who calls this
 /// function may rely on it.)
@@ -29,4 +29,13 @@ pub fn replays_are_moderate()
 {
     architecture::resolved_has_values();
     replay::lassos_are_moderate();
+}
+
+/// Two files have one text of judgements. (A law without code.)
+pub fn replays_have_one_text()
+    ensures { ReplaysHaveOneText }
+{
+    architecture::resolved_has_values();
+    replay::texts_mean_one_lasso();
+    replay::judgements_are_unique();
 }

@@ -2,7 +2,8 @@
 
 ghost use Rattle.std.specs.Prelude.{◌≡◌, ◌++◌, IfOk};
 ghost use Rattle.ocra_tool.specs.Outcomes.{fault_line_of};
-ghost use Rattle.ocra_tool.specs.Lines.{Says, lasso_break_line as line_of_break, no_memory_line, read_fault_line, usage_line, write_fault_line};
+ghost use Rattle.ocra_tool.specs.Lines.{Says, lasso_break_line as line_of_break, no_memory_line, read_fault_line};
+ghost use Rattle.ocra_tool.specs.Lines.{usage_line, write_fault_line};
 
 use itoa::Buffer;
 use oss_base::Fault;

@@ -12,7 +12,7 @@ ghost use Rattle.ocra_tool.specs.Replays.{IsReplayOf};
 ghost use Rattle.ocra_tool.specs.Words.{ReplayLasso};
 
 use crate::files::{described, refused, unread};
-use crate::laws::replays_are_moderate;
+use crate::laws::{replays_are_moderate, replays_have_one_text};
 use crate::lines::lasso_break_line;
 use crate::outcome::{Outcome, Report};
 use oss_base::{MOST_BYTES, Stop};
@@ -171,6 +171,7 @@ fn judged_text(
     ensures { IfOk result (IsReplayOf bytes.now second.now) }
 {
     replays_are_moderate();
+    replays_have_one_text();
     let judgements = judge(alloc, spec, named)?;
     render_judgements(alloc, spec, &judgements)
 }

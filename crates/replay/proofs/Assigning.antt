@@ -65,10 +65,10 @@ words_count (n ∷ names) (v ∷ values) e = let ih = words_count names values (
 
 -- where the items have the places a, a + 1 and so on, each of these places is there once
 
-abbrev times_at : (List ℕ → ℕ) → ℕ → List (List ℕ) → ℕ
+abbrev pub times_at : (List ℕ → ℕ) → ℕ → List (List ℕ) → ℕ
 times_at f p words = count_by (λ word. nat_eq (f word) p) words
 
-times_cons : (f : List ℕ → ℕ) (p : ℕ) (w : List ℕ) (words : List (List ℕ))
+pub times_cons : (f : List ℕ → ℕ) (p : ℕ) (w : List ℕ) (words : List (List ℕ))
     → times_at f p (w ∷ words) ≡ cond (nat_eq (f w) p) 1 0 + times_at f p words
 times_cons f p w words =
     let zero_first : 0 + cond (nat_eq (f w) p) 1 0 ≡ cond (nat_eq (f w) p) 1 0 = omega arith in

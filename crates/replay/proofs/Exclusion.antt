@@ -27,19 +27,26 @@ states_dont_break names kinds missing (v ∷ vs) (line ∷ rest) number (h, more
 same_component : (c e : ComponentId) → c.0 ≡ e.0 → c ≡ e
 same_component c e h = λ j. record { 0 = h j }
 
--- the words of a line tell the component and the number of states
-headers_agree : (spec : Spec) (words : List (List ℕ)) (c e : ComponentId) (n l m k : ℕ) → IsHeaderLine spec words c n l
-    → IsHeaderLine spec words e m k → (c ≡ e) × (n ≡ m)
+-- the words of a line tell the component, the number of states and the place of the loop
+pub headers_agree : (spec : Spec) (words : List (List ℕ)) (c e : ComponentId) (n l m k : ℕ) → IsHeaderLine spec words c n l
+    → IsHeaderLine spec words e m k → (c ≡ e) × (n ≡ m) × (l ≡ k)
 headers_agree spec words c e n l m k h g =
     let parts = sym h.parts ∙ g.parts in
     let name : h.name ≡ g.name = cc parts in
     let count : decimal n ≡ decimal m = cc parts in
+    let loop : decimal l ≡ decimal k = cc parts in
     let places : Some c.0 ≡ Some e.0 = sym h.component ∙ (ap (place_of_component spec) name ∙ g.component) in
-    let place : c.0 ≡ e.0 = cc places in
-    (same_component c e place, decimal_injective n m (small n h.most) (small m g.most) count)
+    let place : c.0 ≡ e.0 = cc places in (
+      same_component c e place,
+      decimal_injective n m (small n h.most) (small m g.most) count,
+      decimal_injective l k (smaller l n h.in_range h.most) (smaller k m g.in_range g.most) loop,
+    )
   where
     small : (n : ℕ) → n ≤ 256 → n < 2 ^ 64
     small n h = omega arith
+
+    smaller : (l n : ℕ) → l < n → n ≤ 256 → l < 2 ^ 64
+    smaller l n a h = omega arith
 
 blocks_dont_break : (spec : Spec) (missing : ℕ) (lines : List NumberedLine) (named : NamedLasso) (number : ℕ)
     → IsBlock spec lines named → LinesBreak spec missing lines number → ⊥

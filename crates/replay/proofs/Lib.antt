@@ -12,6 +12,7 @@ pub mod Assigning
 pub mod Printing
 pub mod Judged
 pub mod Connected
-pub mod Termless
 pub mod LassoTypes
 pub mod Moderate
+pub mod OneLasso
+pub mod OneJudgement

@@ -61,7 +61,7 @@ source_numeral free type (source.Choice p) ends h = zero_is
 
 -- lists
 
-kept_ends : {X : Type 0} (f : X → PortType) → ((x : X) → HasNumeralEnds (f x)) → (xs : List X) (p : ℕ)
+pub kept_ends : {X : Type 0} (f : X → PortType) → ((x : X) → HasNumeralEnds (f x)) → (xs : List X) (p : ℕ)
     → HasNumeralEnds (get_or (map f xs) p kind.Bool)
 kept_ends f so [] zero = tt
 kept_ends f so [] (suc p) = tt
@@ -106,7 +106,7 @@ found_there {X = X} test (y ∷ xs) x e = by (test y) (found_there test xs x) e
 module _ (spec : Spec) (small : HasSmallNumbers spec) where
   -- the free ports hold numerals
 
-  kind_ends : (c : ComponentId) (t : Target) → HasNumeralEnds (port_kind spec c t)
+  pub kind_ends : (c : ComponentId) (t : Target) → HasNumeralEnds (port_kind spec c t)
   kind_ends c t = by (port_at spec c t) (small.ports c t)
     where
       by : (o : Option OwnPort) → ((port : OwnPort) → o ≡ Some port → HasNumeralEnds port.kind)

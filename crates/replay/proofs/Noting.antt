@@ -17,7 +17,8 @@ use Rattle.port_types.specs.Types.{IsOfType}
 use Rattle.replay.specs.LassoBlocks.{value_text}
 use Rattle.replay.specs.TextLines.{words_of_line}
 use Rattle.replay.specs.LassoFiles.{Assigns, AreAssignments, assigned_place, is_equals_sign, value_at_place}
-use Rattle.replay.specs.Reading.{HaveGiven, AreNotedTo, IsNoted, GivesNew, GivesNothingNew, IsValueText, SpeaksOf, TellsPlaces, place_by_key, slot_at, times_given, no_slots}
+use Rattle.replay.specs.Reading.{HaveGiven, AreNotedTo, IsNoted, GivesNew, GivesNothingNew, IsValueText, SpeaksOf, TellsPlaces, place_by_key, slot_at}
+use Rattle.replay.specs.Reading.{times_given, no_slots}
 use Rattle.replay.proofs.Positions.{position_is, position_told}
 
 -- how often the words speak of a port

@@ -69,7 +69,7 @@ pub positive_only : (text : List ℕ) → ((rest : List ℕ) → text ≡ 45 ∷
 positive_only text plain none (pos n) h e = none n h e
 positive_only text plain none (negsuc n) h e = plain (decimal (suc n)) e
 
-below_by : (z : ℤ) → unsigned_abs z ≤ 2 ^ 31 → mag z < 2 ^ 63
+pub below_by : (z : ℤ) → unsigned_abs z ≤ 2 ^ 31 → mag z < 2 ^ 63
 below_by (pos n) h = omega arith
 below_by (negsuc n) h = omega arith
 

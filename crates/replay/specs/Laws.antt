@@ -1,5 +1,5 @@
--- What is always so of lasso files: no text means a lasso and breaks, and a printed lasso is read as itself; and of the
--- traces by which contracts are judged.
+-- What is always so of lasso files: no text means a lasso and breaks, none means two, and a printed lasso is read as
+-- itself; and of the traces by which contracts are judged, and of judgements.
 use Rattle.std.specs.Prelude.{◌≡◌, ◌≢◌, ℕ, ◌≤◌, ◌||◌, Bool, true, not, nat_eq, List, [], length, All, AllPairs}
 use Rattle.std.specs.Prelude.{Option, Some}
 use Rattle.std.specs.List.{AllZip}
@@ -19,13 +19,19 @@ use Rattle.replay.specs.declared.named.NamedLasso.{NamedLasso}
 use Rattle.replay.specs.FreePortNames.{free_names, free_kinds}
 use Rattle.replay.specs.LassoBlocks.{lasso_block}
 use Rattle.replay.specs.TextLines.{divides_words}
-use Rattle.replay.specs.Judgements.{seen_trace, HasModerateTerms}
+use Rattle.replay.specs.declared.judgement.Judgement.{Judgement}
+use Rattle.replay.specs.Judgements.{seen_trace, HasModerateTerms, AreJudgements}
 use Rattle.replay.specs.LassoFiles.{IsLasso, IsBreak, place_of_component, is_equals_sign, most_states}
 
 -- No text means a lasso and breaks.
 abbrev pub LassosDontBreak : Type 0
 LassosDontBreak = (spec : Spec) (bytes : List ℕ) (named : NamedLasso) (number : ℕ)
     → IsLasso spec bytes named → IsBreak spec bytes number → ⊥
+
+-- A text means at most one lasso.
+abbrev pub TextsMeanOneLasso : Type 0
+TextsMeanOneLasso = (spec : Spec) (bytes : List ℕ) (named other : NamedLasso) → HasSmallNumbers spec
+    → IsLasso spec bytes named → IsLasso spec bytes other → named ≡ other
 
 -- a byte that divides no words, ends no line and is no `=`
 abbrev pub stands_in_names : ℕ → Bool
@@ -66,6 +72,11 @@ BlocksReadBack = (spec : Spec) (name : List ℕ) (named : NamedLasso) → HasFil
 abbrev pub SeenTracesAreConnected : Type 0
 SeenTracesAreConnected = (spec : Spec) (named : NamedLasso) (s : Option SubId)
     → ConnectionsHold spec named.component s (word named.lasso.states named.lasso.loop_at) (seen_trace spec named s)
+
+-- A lasso has one list of judgements.
+abbrev pub JudgementsAreUnique : Type 0
+JudgementsAreUnique = (spec : Spec) (named : NamedLasso) (judgements others : List Judgement)
+    → AreJudgements spec named judgements → AreJudgements spec named others → judgements ≡ others
 
 -- A lasso that a text means can be judged: all terms are moderate, where the specification has small numbers and its
 -- connections keep to the types of their targets.

@@ -5,5 +5,4 @@ pub mod LassoFiles
 pub mod Reading
 pub mod Judgements
 pub mod Judging
-pub mod Samples
 pub mod Laws

@@ -6,7 +6,6 @@ ghost use Rattle.typed_ltl.specs.Traces.{word};
 ghost use Rattle.typed_ltl.specs.Truth.{Holds, IsModerateOn};
 ghost use Rattle.spec_model.specs.Architecture.{targets_at};
 ghost use Rattle.connections.specs.Drivers.{driver_of};
-ghost use Rattle.connections.specs.LevelFormulas.{contracts_at as contracts_by_sub};
 ghost use Rattle.replay.specs.Judgements.{all_contracts_at, seen_trace};
 ghost use Rattle.replay.specs.Judgements.{IsJudgementBy, AreJudgements, IsModerateContract, HasModerateTerms};
 ghost use Rattle.replay.specs.Judging.{AreJudged};
@@ -14,7 +13,7 @@ ghost use Rattle.replay.specs.Judging.{AreJudged};
 use crate::driven::driven_states;
 use crate::judgement::{Judgement, Judgements};
 use crate::named::NamedLasso;
-use connections::{Driver, port_drivers};
+use connections::{Driver, contracts_at, port_drivers};
 use oss_base::{ComponentId, ContractId, SubId};
 use port_types::NoMemory;
 use spec_model::{Contract, Spec};
@@ -38,19 +37,6 @@ fn number(place: usize) -> Result<u32, NoMemory>
     match u32::try_from(place) {
         Ok(number) => Ok(number),
         Err(_) => Err(NoMemory),
-    }
-}
-
-/// The contracts of the component itself, or of the component of one of its subcomponents.
-fn contracts_at(spec: &Spec, c: ComponentId, sub: Option<SubId>) -> &[Contract]
-    ensures { result.now ≡ contracts_by_sub spec.now c sub }
-{
-    match sub {
-        None => spec.contracts_of(c),
-        Some(sub) => match spec.sub_component(c, sub) {
-            Some(component) => spec.contracts_of(component),
-            None => &[],
-        },
     }
 }
 

@@ -2,11 +2,16 @@
 //! clauses. They touch nothing.
 
 ghost use Rattle.replay.specs.Laws.{LassosDontBreak, BlocksReadBack, SeenTracesAreConnected};
-ghost use Rattle.replay.specs.Laws.{LassosAreModerate};
+ghost use Rattle.replay.specs.Laws.{LassosAreModerate, TextsMeanOneLasso, JudgementsAreUnique};
 
 /// A text that means a lasso doesn't break, and one that breaks means none. (A law without code.)
 pub fn lassos_dont_break()
     ensures { LassosDontBreak }
+{}
+
+/// A text means at most one lasso, where the specification has small numbers. (A law without code.)
+pub fn texts_mean_one_lasso()
+    ensures { TextsMeanOneLasso }
 {}
 
 /// A lasso that `write_lasso` printed is read as itself, where the names and values of its component can stand in a
@@ -21,8 +26,13 @@ pub fn seen_traces_are_connected()
     ensures { SeenTracesAreConnected }
 {}
 
-/// The condition of `judge` is met by each lasso that `read_lasso` answers, where the specification has small numbers and
-/// its connections keep to the types of their targets. (A law without code.)
+/// A lasso has one list of judgements. (A law without code.)
+pub fn judgements_are_unique()
+    ensures { JudgementsAreUnique }
+{}
+
+/// The condition of `judge` is met by each lasso that `read_lasso` answers, where the specification has small numbers
+/// and its connections keep to the types of their targets. (A law without code.)
 pub fn lassos_are_moderate()
     ensures { LassosAreModerate }
 {

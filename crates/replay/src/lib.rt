@@ -9,8 +9,6 @@ mod free_ports;
 mod header;
 mod judgement;
 mod judging;
-#[cfg(test)]
-mod judging_tests;
 mod laws;
 mod lines;
 mod named;
@@ -27,7 +25,8 @@ pub use free_ports::free_names;
 pub use judgement::{Judgement, Judgements};
 pub use judging::judge;
 pub use laws::{
-    blocks_read_back, lassos_are_moderate, lassos_dont_break, seen_traces_are_connected,
+    blocks_read_back, judgements_are_unique, lassos_are_moderate, lassos_dont_break,
+    seen_traces_are_connected, texts_mean_one_lasso,
 };
 pub use named::{LassoStop, NamedLasso};
 pub use reading::read_lasso;

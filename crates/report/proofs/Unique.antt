@@ -1,33 +1,16 @@
 -- A specification has one list of answers.
-use Rattle.std.proofs.Common.{◌≡◌, ℕ, ◌+◌, ◌<◌, Bool, List, [], ◌∷◌, ◌++◌, length, Option, Some, None, refl, sym, ap, ◌∙◌, subst}
-use Rattle.std.specs.Coded.{le_prop}
-use Rattle.port_types.specs.declared.types.Value.{Value}
+use Rattle.std.proofs.Common.{◌≡◌, ℕ, ◌+◌, Bool, List, [], ◌∷◌, ◌++◌, length, Option, Some, None, refl, sym, ap, ◌∙◌}
 use Rattle.spec_model.specs.declared.spec.Spec.{Spec}
 use Rattle.spec_model.specs.declared.item.Item.{Item}
 use Rattle.spec_model.specs.Architecture.{free_targets}
-use Rattle.typed_ltl.specs.declared.lasso.Lasso.{Lasso}
 use Rattle.typed_ltl.specs.declared.lasso.Verdict.{Verdict}
 use Rattle.typed_ltl.specs.declared.lasso.Verdict.TheVariants as verdict
+use Rattle.first_lasso.proofs.FirstLassos.{same_lasso}
 use Rattle.obligations.specs.Levels.{Part, entails, assumes}
 use Rattle.obligations.specs.Valuations.{first_breaking}
 use Rattle.obligations.specs.Verdicts.{IsVerdict, AreVerdicts, AreAssumesVerdicts}
 use Rattle.report.specs.declared.answers.Answer.{Answer}
 use Rattle.report.specs.AllAnswers.{AnswersAreUnique, AreAnswersFrom, level_answers}
-
-lasso_of : (states : List (List Value)) (loop_at : ℕ) → loop_at < length states → Lasso
-lasso_of states loop_at within = record { states = states; loop_at = loop_at; in_range = within }
-
-same_fits : (m n : ℕ) → IsProp (m < n)
-same_fits m n = le_prop
-
-lasso_path : (s t : List (List Value)) (m n : ℕ) (within : m < length s) (fits : n < length t) → s ≡ t → m ≡ n → lasso_of s m within ≡ lasso_of t n fits
-lasso_path s t m n within fits e f =
-    subst (λ (x : List (List Value)). (b : n < length x) → lasso_of s m within ≡ lasso_of x n b) e
-    (subst (λ (k : ℕ). (b : k < length s) → lasso_of s m within ≡ lasso_of s k b) f (λ b. ap (lasso_of s m) (same_fits m (length s) within b))) fits
-
-same_lasso : (a b : Lasso) → a.states ≡ b.states → a.loop_at ≡ b.loop_at → a ≡ b
-unfolding lasso_of
-same_lasso a b e f = lasso_path a.states b.states a.loop_at b.loop_at a.in_range b.in_range e f
 
 one_verdict : (o : Option (List Bool)) (v w : Verdict) → IsVerdict o v → IsVerdict o w → v ≡ w
 one_verdict (Some bs) (verdict.Refuted a) (verdict.Refuted b) h k = ap verdict.Refuted (same_lasso a b (h.0 ∙ sym k.0) (h.1 ∙ sym k.1))

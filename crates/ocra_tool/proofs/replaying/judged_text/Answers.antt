@@ -8,4 +8,5 @@ judge-requires c =
 pub returns : goal.returns
 returns c =
     replay_of c.args.bytes.now c.args.second.now c.args.spec.now c.args.named.now c.in_ok-judgements.judgements c.render_judgements.result
-    (record { sole = c.requires.sole; lasso = c.requires.lasso; judged = c.in_ok-judgements.ensures }) c.render_judgements.ensures
+    c.replays_have_one_text.ensures (record { sole = c.requires.sole; lasso = c.requires.lasso; judged = c.in_ok-judgements.ensures })
+    c.render_judgements.ensures

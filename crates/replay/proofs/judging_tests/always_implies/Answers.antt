@@ -1,7 +1,0 @@
-use Rattle.std.proofs.Common.{sym, subst}
-use Rattle.typed_ltl.specs.Truth.{IsModerateOn}
-use Rattle.replay.proofs.judging_tests.always_implies.Goals as goal
-
-pub returns : goal.returns
-returns c =
-    λ w. subst (IsModerateOn w) (sym c.in_ok-always.ensures) (subst (IsModerateOn w) (sym c.in_ok-implies.ensures) (c.is_set.ensures w, c.is_set-2.ensures w))
