@@ -13,9 +13,9 @@ ghost use Rattle.ocra_tool.specs.Files.{IsSystemOf};
 ghost use Rattle.ocra_tool.specs.Lines.{Says, no_memory_line, read_fault_line, usage_line, write_fault_line};
 ghost use Rattle.ocra_tool.specs.Outcomes.{MayBeUnread, Means, fault_line_of};
 ghost use Rattle.ocra_tool.specs.Statuses.{IsDone, IsStatus};
-ghost use Rattle.ocra_tool.specs.Tasks.{AreSound, HasFaultFor, HasSecondFaultFor, IsAnswerTo, IsFaultFor};
-ghost use Rattle.ocra_tool.specs.Tasks.{IsSecondFaultFor, IsStatusOf, OfNames, SecondFault, first_file};
-ghost use Rattle.ocra_tool.specs.Tasks.{second_bytes, second_fault_line, second_file};
+ghost use Rattle.ocra_tool.specs.Tasks.{AreSound, IsSound, HasFaultFor, HasSecondFaultFor};
+ghost use Rattle.ocra_tool.specs.Tasks.{IsAnswerTo, IsFaultFor, IsSecondFaultFor, IsStatusOf, OfNames};
+ghost use Rattle.ocra_tool.specs.Tasks.{SecondFault, first_file, second_bytes, second_fault_line, second_file};
 ghost use Rattle.ocra_tool.specs.Words.{CheckFile, task_of};
 
 use crate::check::check_file;
@@ -46,12 +46,13 @@ pub fn run<F: Shelf, O: Sink, E: Sink>(
 
     ensures statuses { IsStatus result }
 
-    // 0 and 1, done: `out` took a whole text, and `err` is untouched. The task is answered by this text
-    // and this status. Of `check`: the file's bytes are a specification of which the text is the report,
-    // and the status is 1 exactly where the report has something refuted. Of `replay`: the text is that of
-    // the judgements, and the status is 0.
+    // 0 and 1, done: `out` took a whole text, and `err` is untouched. FILE has no fault for the task, and
+    // the task is answered by this text and this status. Of `check`: the file's bytes are a specification of
+    // which the text is the report, and the status is 1 exactly where the report has something refuted. Of
+    // `replay`: the text is that of the judgements, and the status is 0.
     ensures done { IsDone result → IfSome (task_of words.now) (λ task. IsStatusOf task result × (text : List ℕ) ×
         Appends (O.taken out.old) (O.taken out.new) text
+        × IfSome (F.held shelf.old (first_file task)) (IsSound task)
         × IfHeld task (F.held shelf.old) (λ bytes second. IsAnswerTo task bytes second text result)) }
     ensures done_quiet { IsDone result → err.new ≡ err.old }
 
@@ -69,6 +70,7 @@ pub fn run<F: Shelf, O: Sink, E: Sink>(
     ensures second_refused { result ≡ 8 → IfSome (task_of words.now) (λ task. (name : List ℕ) ×
         (second_file task ≡ Some name) × (fault : SecondFault) ×
         Says (E.taken err.old) (E.taken err.new) (E.faults err.old) (E.faults err.new) (second_fault_line name fault)
+        × IfSome (F.held shelf.old (first_file task)) (IsSound task)
         × IfHeld task (F.held shelf.old) (λ bytes second. IsSecondFaultFor task bytes second fault)) }
 
     // 4 comes exactly where the words mean no command, and the shelf is untouched.
