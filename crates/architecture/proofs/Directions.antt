@@ -13,11 +13,13 @@ use Rattle.oss_syntax.specs.declared.refinement.TargetTree.TheVariants as target
 use Rattle.spec_model.specs.Architecture.{target, same_target}
 use Rattle.spec_model.specs.declared.wire.Target.{Target}
 use Rattle.spec_model.proofs.Targets.{other_target}
-use Rattle.spec_names.specs.Scopes.{PortDeclaration, port_declarations, has_direction, directed_place, directed_port, port_place, SubDeclaration, sub_declarations}
+use Rattle.spec_names.specs.Scopes.{PortDeclaration, port_declarations, has_direction, directed_place, directed_port, port_place, SubDeclaration}
+use Rattle.spec_names.specs.Scopes.{sub_declarations}
 use Rattle.spec_names.specs.Scopes.{refinement_parts, declared_interface, sub_interface_at, sub_place, enumerator_if, target_meaning}
 use Rattle.spec_names.specs.Scopes.{OwnPort, SubPort, sees_enumerator}
 use Rattle.spec_types.specs.Typing.{PortReading}
-use Rattle.spec_types.specs.TreeComponents.{port_meant, target_of_meaning, tree_target, driven_target, sub_port_counts, free_order, own_free_reading, sub_free_reading}
+use Rattle.spec_types.specs.TreeComponents.{port_meant, target_of_meaning, tree_target, driven_target, sub_port_counts, free_order, own_free_reading}
+use Rattle.spec_types.specs.TreeComponents.{sub_free_reading}
 use Rattle.spec_types.specs.TreeComponents.{connection_reading}
 use Rattle.architecture.proofs.Listing.{Each, each_kept, each_more, none_passes}
 use Rattle.architecture.proofs.FreePorts.{own_among, sub_among, free_at}

@@ -1,5 +1,6 @@
 -- What is made by the tables of names is what the tree stands for.
-use Rattle.std.proofs.Common.{◌≡◌, ℕ, zero, suc, ◌+◌, Bool, true, false, ◌&&◌, ◌||◌, if◌then◌else◌, List, [], ◌∷◌, ◌++◌, map, filter_map, position, slice_get, Option, Some, None, is_some, is_none}
+use Rattle.std.proofs.Common.{◌≡◌, ℕ, zero, suc, ◌+◌, Bool, true, false, ◌&&◌, ◌||◌, if◌then◌else◌, List, [], ◌∷◌, ◌++◌, map, filter_map, position, slice_get}
+use Rattle.std.proofs.Common.{Option, Some, None, is_some, is_none}
 use Rattle.std.proofs.Common.{option_map, option_and_then, unwrap_or, refl, ap, subst, ◌∙◌, arith}
 use Rattle.std.proofs.lemmas.Bool.{false≢true, true≢false}
 use Rattle.std.proofs.lemmas.Option.{slice_get-map}
@@ -29,7 +30,8 @@ use Rattle.spec_names.proofs.Lists.{filter_map-option_map, position-any, positio
 use Rattle.spec_names.proofs.TablesAt.{refinement_tables_at}
 use Rattle.spec_types.specs.TreeComponents.{own_ports, tree_contracts, tree_wires}
 use Rattle.architecture.specs.Standing.{component_meaning, place_or_first, tree_sub, tree_component, tree_part, part_ids, tree_item, tree_items_from}
-use Rattle.architecture.specs.Assembling.{sub_by, components_by, named_contract, component_of_sub, contract_of_sub, part_by, part_in, refined_by, item_by, items_by, has_system}
+use Rattle.architecture.specs.Assembling.{sub_by, components_by, named_contract, component_of_sub, contract_of_sub, part_by, part_in, refined_by, item_by}
+use Rattle.architecture.specs.Assembling.{items_by, has_system}
 use Rattle.architecture.proofs.Listing.{kept_same, both_empty}
 
 -- subcomponents

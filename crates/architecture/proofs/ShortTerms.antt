@@ -10,7 +10,8 @@ use Rattle.oss_syntax.specs.declared.expression.PrefixWord.{PrefixWord}
 use Rattle.oss_syntax.specs.declared.expression.PrefixWord.TheVariants as prefix
 use Rattle.port_types.specs.declared.types.PortType.{PortType}
 use Rattle.port_types.specs.declared.types.PortType.TheVariants as kind
-use Rattle.spec_types.specs.Typing.{PortReading, ExpressionReading, Typed, Formula, Term, Pick, formula_in, number_in, port_as, read_port, read_name, equality, at_most}
+use Rattle.spec_types.specs.Typing.{PortReading, ExpressionReading, Typed, Formula, Term, Pick, formula_in, number_in, port_as, read_port, read_name, equality}
+use Rattle.spec_types.specs.Typing.{at_most}
 use Rattle.spec_types.specs.Typing.{of_port, of_wanted, typed_prefix, typed_binary, truth_word, typed_of}
 use Rattle.spec_values.specs.SmallNumbers.{reach, HasShortTerms}
 use Rattle.architecture.proofs.FewTerminals.{leaf_count, HasFileNumerals}

@@ -25,7 +25,8 @@ use Rattle.spec_model.specs.declared.wire.Source.TheVariants as source
 use Rattle.spec_model.specs.declared.wire.Wire.{Wire}
 use Rattle.spec_names.specs.Scopes.{PortDeclaration, port_declaration, port_declarations, refinement_parts, interface_at}
 use Rattle.spec_types.specs.Typing.{ExpressionReading, Typed, Formula, Term, Pick, typed_of}
-use Rattle.spec_types.specs.TreeComponents.{signed, typed_port, type_of, own_ports, contract_reading, connection_reading, tree_contract, tree_contracts, typed_source}
+use Rattle.spec_types.specs.TreeComponents.{signed, typed_port, type_of, own_ports, contract_reading, connection_reading, tree_contract, tree_contracts}
+use Rattle.spec_types.specs.TreeComponents.{typed_source}
 use Rattle.spec_types.specs.TreeComponents.{tree_wire, tree_wires}
 use Rattle.spec_values.specs.SmallNumbers.{HasShortTerms, IsShort, SourceIsShort, HasNumeralEnds, HasSmallNumbers}
 use Rattle.architecture.specs.Laws.{ResolvedHasSmallNumbers}

@@ -29,7 +29,8 @@ use Rattle.spec_names.specs.Scopes.{component_place, sub_interface_at, sub_place
 use Rattle.spec_types.specs.Typing.{ExpressionReading, Typed, Formula, Term, Pick, typed_of}
 use Rattle.spec_types.specs.TypeFaults.{mismatch_unless, expression_faults, expression_start, admits_source}
 use Rattle.spec_types.specs.TreeComponents as types
-use Rattle.spec_types.specs.TreeComponents.{types_faults, range_faults_in, contract_faults, connection_faults, connection_reading, free_order, own_ports, typed_port, type_of, kind_at, target_kind}
+use Rattle.spec_types.specs.TreeComponents.{types_faults, range_faults_in, contract_faults, connection_faults, connection_reading, free_order, own_ports}
+use Rattle.spec_types.specs.TreeComponents.{typed_port, type_of, kind_at, target_kind}
 use Rattle.spec_types.specs.TreeComponents.{target_of_meaning, tree_target, typed_source, tree_wire, tree_wires}
 use Rattle.architecture.specs.FirstFaults.{tree_site}
 use Rattle.architecture.specs.StateSources.{HasStateSource}

@@ -1,5 +1,6 @@
 -- What a tree without a fault stands for is well formed, and its connections read free ports and fit their targets.
-use Rattle.std.proofs.Common.{◌≡◌, ℕ, ◌<◌, Bool, true, false, List, [], length, map, filter_map, slice_get, nat_eq, Option, Some, None, option_map, is_some, refl, sym, ap, subst, ◌∙◌}
+use Rattle.std.proofs.Common.{◌≡◌, ℕ, ◌<◌, Bool, true, false, List, [], length, map, filter_map, slice_get, nat_eq, Option, Some, None, option_map, is_some}
+use Rattle.std.proofs.Common.{refl, sym, ap, subst, ◌∙◌}
 use Rattle.std.specs.Prelude.{All}
 use Rattle.std.specs.Option.{option_map_or}
 use Rattle.std.proofs.lemmas.Bool.{false≢true, eq-eqb}
@@ -31,7 +32,8 @@ use Rattle.spec_names.specs.Scopes.{PortDeclaration, port_declarations, is_named
 use Rattle.spec_names.specs.Scopes.{SubDeclaration, sub_declarations, refinement_parts, component_place, interface_at, declared_interface, sub_interface_at}
 use Rattle.spec_names.proofs.Lists.{filter_map-option_map, position_within}
 use Rattle.spec_types.specs.Typing.{PortReading, ExpressionReading, typed_of}
-use Rattle.spec_types.specs.TreeComponents.{typed_port, own_ports, port_meant, own_reading, no_reading, contract_reading, driven_target, sub_port_counts, free_order}
+use Rattle.spec_types.specs.TreeComponents.{typed_port, own_ports, port_meant, own_reading, no_reading, contract_reading, driven_target, sub_port_counts}
+use Rattle.spec_types.specs.TreeComponents.{free_order}
 use Rattle.spec_types.specs.TreeComponents.{connection_reading, tree_contract, tree_contracts, tree_wire, tree_wires}
 use Rattle.spec_values.specs.FreeTypes.{HasFreeTypes, SourcesKeepTypes}
 use Rattle.typed_ltl.specs.Traces.{Assignment}

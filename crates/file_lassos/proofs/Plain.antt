@@ -1,6 +1,7 @@
 -- Ports and subcomponents of what a text without a fault stands for: their names are names of the text, each stands
 -- once, and the values of ports can stand in a lasso file.
-use Rattle.std.proofs.Common.{◌≡◌, ℕ, ◌≤◌, Bool, true, false, List, [], ◌∷◌, length, map, filter_map, slice_get, Option, Some, None, refl, sym, ap, subst, ◌∙◌, arith}
+use Rattle.std.proofs.Common.{◌≡◌, ℕ, ◌≤◌, Bool, true, false, List, [], ◌∷◌, length, map, filter_map, slice_get, Option, Some, None, refl, sym, ap, subst, ◌∙◌}
+use Rattle.std.proofs.Common.{arith}
 use Rattle.std.specs.Prelude.{flat_map}
 use Rattle.std.specs.Option.{option_map_or}
 use Rattle.std.proofs.lemmas.Int.{ints}
@@ -94,7 +95,8 @@ plain_ports interface each none =
     let parts = both_empty (again F9 same_name start_of (port_name_words interface)) _ none in
     record {
       plain = each_made typed_port IsPlainPort ds
-          (each_kept port_declaration FitsItem (λ (port : PortDeclaration). IsPlainPort (typed_port port)) plain_port interface (each_from FitsItem interface each));
+          (each_kept port_declaration FitsItem (λ (port : PortDeclaration). IsPlainPort (typed_port port)) plain_port interface
+          (each_from FitsItem interface each));
       once = subst StandOnce names (words_once F9 (port_name_words interface) parts.0);
     }
 
