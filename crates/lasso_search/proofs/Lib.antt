@@ -1,0 +1,4 @@
+pub mod WordTruth
+pub mod Conditions
+pub mod TruthStates
+pub mod MemberTruth

@@ -1,0 +1,2 @@
+pub mod TableauLassos
+pub mod Laws

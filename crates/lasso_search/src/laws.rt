@@ -1,0 +1,11 @@
+//! The law of lassos that break a question, for callers that cite it. The function has no code.
+
+ghost use Rattle.lasso_search.specs.Laws.{BreakingLassosAreTableauLassos};
+
+/// A lasso breaks a question exactly where a lasso of tableau states has its shape and its valuations.
+pub fn breaking_lassos()
+    ensures { BreakingLassosAreTableauLassos }
+{
+    // a law, no code runs
+    port_types::values_by_kind();
+}

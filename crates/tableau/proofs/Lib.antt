@@ -1,0 +1,12 @@
+pub mod UntilLaws
+pub mod AtomBounds
+pub mod Places
+pub mod MemberSteps
+pub mod WholeLayers
+pub mod Agreement
+pub mod LayerSteps
+pub mod StepLaws
+pub mod Fronts
+pub mod StepFronts
+pub mod Conditions
+pub mod SampleFacts

@@ -1,0 +1,6 @@
+pub mod TableauStates
+pub mod Copies
+pub mod Steps
+pub mod Laws
+pub mod Parts
+pub mod Samples
