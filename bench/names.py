@@ -103,6 +103,28 @@ def one_pair():
         yield f"CONTRACT c{first} assume: true; guarantee: " + "&".join(["v=w"] * 100) + ";\n"
 
 
+def wired_components():
+    """30,000 components with a connection each, between ports of the same two components with 100,000 names."""
+    names = ",".join(f"e{n}" for n in range(100_000))
+    yield HEAD
+    for n in range(30_000):
+        yield f"COMPONENT c{n} INTERFACE REFINEMENT SUB a:K;SUB b:L;CONNECTION a.p:=b.o;\n"
+    yield f"COMPONENT K INTERFACE INPUT PORT p:{{{names}}};\n"
+    yield f"COMPONENT L INTERFACE OUTPUT PORT o:{{{names}}};\n"
+
+
+def wired_subcomponents():
+    """50,000 subcomponents of one component, each with a connection from the same own port of 100,000 names."""
+    names = ",".join(f"e{n}" for n in range(100_000))
+    yield HEAD + f"INPUT PORT v:{{{names}}};\n  REFINEMENT\n"
+    for n in range(50_000):
+        yield f"SUB s{n}:P;"
+    yield "\n"
+    for n in range(50_000):
+        yield f"CONNECTION s{n}.i:=v;"
+    yield f"\nCOMPONENT P INTERFACE INPUT PORT i:{{{names}}};\n"
+
+
 def operands():
     """One formula of 300,000 operands: too high."""
     yield HEAD + "INPUT PORT a: boolean;\nCONTRACT c assume: true; guarantee: "
@@ -121,7 +143,7 @@ def balanced():
 
 
 CASES = (components, ports, subcomponents, connections, chain, doubling, enumerators, enumerations, comparisons, one_pair,
-         operands, balanced)
+         wired_components, wired_subcomponents, operands, balanced)
 
 
 def main():
@@ -141,7 +163,7 @@ def main():
         _, status, usage = os.wait4(child.pid, 0)
         wall = time.monotonic() - start
         over = "  OVER 4 MiB" if size > LIMIT else ""
-        print(f"{case.__name__:14} {size:9} bytes {usage.ru_utime:6.2f} s user {wall:6.2f} s "
+        print(f"{case.__name__:19} {size:9} bytes {usage.ru_utime:6.2f} s user {wall:6.2f} s "
               f"{usage.ru_maxrss // 1024:5} MB  status {os.waitstatus_to_exitcode(status)}  {said}{over}", flush=True)
 
 

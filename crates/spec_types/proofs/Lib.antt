@@ -1,5 +1,6 @@
 pub mod Counting
 pub mod NameTables
+pub mod Fitting
 pub mod Walking
 pub mod Making
 pub mod Readings

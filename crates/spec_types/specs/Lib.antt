@@ -7,3 +7,4 @@ pub mod Walks
 pub mod Making
 pub mod Tables
 pub mod NameTables
+pub mod Fitting

@@ -1,8 +1,8 @@
 //! The components of a text with typed expressions: `typed_components`. It touches nothing outside.
 
-ghost use Rattle.std.specs.Prelude.{◌≡◌, ◌++◌, [], map, filter_map, option_map, IfOk, OnOk};
+ghost use Rattle.std.specs.Prelude.{◌≡◌, ◌++◌, [], map, filter_map, option_map, slice_get, IfOk, OnOk};
 ghost use Rattle.spec_model.specs.Meanings as meanings;
-ghost use Rattle.std.specs.List.{cons_option, flat_map, zip};
+ghost use Rattle.std.specs.List.{cons_option, flat_map, zip, All};
 ghost use Rattle.std.specs.Option.{option_copied, option_map_or};
 ghost use Rattle.oss_syntax.specs.Trees.{component_trees};
 ghost use Rattle.spec_names.specs.Directory.{IsDirectoryOf};
@@ -10,11 +10,13 @@ ghost use Rattle.spec_names.specs.Noting.{noted};
 ghost use Rattle.spec_types.specs.TreeComponents as specs;
 ghost use Rattle.spec_types.specs.Walks as walks;
 ghost use Rattle.spec_types.specs.Tables as facts;
+ghost use Rattle.spec_types.specs.Fitting as fitting;
 
 use crate::connections::{targets_of, wires_of};
 use crate::contracts::contracts_of;
 use crate::declarations::own_ports;
 use crate::enumerations::Sightings;
+use crate::known_fits::KnownFits;
 use crate::scope::{PortScope, RefinementScope, Scope, component_scope};
 use oss_base::{FaultSite, FirstSite, first_is_least, first_of_both};
 use oss_syntax::{RefinementItem, TreeComponent};
@@ -195,10 +197,13 @@ fn port_counts(
 fn refinement_wires<'a>(
     alloc: Global,
     sightings: &mut Sightings,
+    known: &mut KnownFits,
     scope: &RefinementScope<'a>,
     items: &'a [RefinementItem],
     first: &mut FirstSite,
 ) -> Result<Wires, NoMemory>
+    requires { fitting.KnowsFits scope.now known.old.kept.items }
+    ensures known { OnOk result (fitting.KnowsFits scope.now known.new.kept.items) }
     ensures wires { IfOk result (λ made. map meanings.wire_meaning made
         ≡ facts.wires_by (walks.refinement scope.now) items.now) }
     ensures first { OnOk result (first.new ≡ noted (facts.wire_faults_in
@@ -207,17 +212,20 @@ fn refinement_wires<'a>(
     let targets = targets_of(alloc, scope, items)?;
     let counts = port_counts(alloc, scope.scopes, scope.components)?;
     let order = FreeOrder::new(alloc, scope.own.ports.len(), counts, targets.as_slice())?;
-    wires_of(alloc, sightings, scope, &order, items, first)
+    wires_of(alloc, sightings, known, scope, &order, items, first)
 }
 
 /// The connections of a component, none where it has no refinement.
 fn component_wires<'a>(
     alloc: Global,
     sightings: &mut Sightings,
+    known: &mut KnownFits,
     component: &'a TreeComponent,
     scope: &RefinementScope<'a>,
     first: &mut FirstSite,
 ) -> Result<Wires, NoMemory>
+    requires { fitting.KnowsFits scope.now known.old.kept.items }
+    ensures known { OnOk result (fitting.KnowsFits scope.now known.new.kept.items) }
     ensures wires { IfOk result (λ made. map meanings.wire_meaning made
         ≡ facts.wires_in component.now (walks.refinement scope.now)) }
     ensures first { OnOk result (first.new ≡ noted (facts.wire_faults_of component.now
@@ -225,7 +233,7 @@ fn component_wires<'a>(
 {
     match &component.refinement {
         None => Ok(Wires::new(alloc)),
-        Some(items) => refinement_wires(alloc, sightings, scope, items.as_slice(), first),
+        Some(items) => { refinement_wires(alloc, sightings, known, scope, items.as_slice(), first) }
     }
 }
 
@@ -233,13 +241,18 @@ fn component_wires<'a>(
 fn put_wires<'a>(
     alloc: Global,
     sightings: &mut Sightings,
+    known: &mut KnownFits,
     wires: &mut Vec<Wires>,
     component: Option<&'a TreeComponent>,
+    place: usize,
     own: Option<&PortScope<'a>>,
     tables: Option<&'a RefinementTables>,
     scopes: &'a [PortScope<'a>],
     first: &mut FirstSite,
 ) -> Result<(), NoMemory>
+    requires own { option_map walks.interface (option_copied own) ≡ slice_get (map walks.interface scopes.now) place }
+    requires known { All (fitting.IsFitting (map walks.interface scopes.now)) known.old.kept.items }
+    ensures known { OnOk result (All (fitting.IsFitting (map walks.interface scopes.now)) known.new.kept.items) }
     ensures wires { OnOk result (map facts.wire_meanings wires.new.items ≡ map facts.wire_meanings wires.old.items
         ++ cons_option (option_map (facts.wires_of_pair (map walks.interface scopes.now)) (facts.both (facts.both
         (option_copied component.entry)
@@ -258,11 +271,12 @@ fn put_wires<'a>(
                 Some(tables) => {
                     let scope = RefinementScope {
                         own: *own,
+                        place,
                         subs: &tables.subs,
                         components: tables.components.as_slice(),
                         scopes,
                     };
-                    let made = component_wires(alloc, sightings, component, &scope, first)?;
+                    let made = component_wires(alloc, sightings, known, component, &scope, first)?;
                     wires.push(made)?;
                     Ok(())
                 }
@@ -288,12 +302,13 @@ fn all_wires<'a>(
         (zip (zip components.now (map walks.interface scopes.now)) refinements.now)) first.old) }
 {
     let mut wires = Vec::new(alloc);
+    let mut known = KnownFits::new(alloc);
     for place in 0..components.len() {
         let component = at(components, place);
         let own = at(scopes, place);
         let tables = at(refinements, place);
         put_wires(
-            alloc, sightings, &mut wires, component, own, tables, scopes, first,
+            alloc, sightings, &mut known, &mut wires, component, place, own, tables, scopes, first,
         )?;
     }
     Ok(wires)

@@ -1,7 +1,7 @@
 //! The connections of a refinement with typed expressions: `wires_of`. Type faults are noted. It touches
 //! nothing outside.
 
-ghost use Rattle.std.specs.Prelude.{◌≡◌, ◌++◌, [], IfOk, OnOk, Some, map, filter_map, option_map};
+ghost use Rattle.std.specs.Prelude.{◌≡◌, ◌++◌, [], IfOk, IfSome, OnOk, Some, map, filter_map, option_map, slice_get};
 ghost use Rattle.spec_model.specs.Meanings as meanings;
 ghost use Rattle.std.specs.List.{cons_option, flat_map};
 ghost use Rattle.oss_syntax.specs.Expressions.{tree};
@@ -13,10 +13,13 @@ ghost use Rattle.spec_types.specs.Uses.{expression_uses};
 ghost use Rattle.spec_types.specs.TreeComponents as specs;
 ghost use Rattle.spec_types.specs.Walks as walks;
 ghost use Rattle.spec_types.specs.Making as making;
+ghost use Rattle.spec_types.specs.Fitting as fitting;
 
 use crate::contracts::{start, used_expression};
 use crate::enumerations::Sightings;
 use crate::fits::admits_source;
+use crate::known_fits::KnownFits;
+use crate::port_places::{PortPlace, place_of_source, place_of_target};
 use crate::scope::{FoundPort, RefinementScope, Scope, find_port, find_sub_port, same_direction};
 use crate::typed::Typed;
 use crate::walk::{is_settled, note_unless};
@@ -25,6 +28,9 @@ use oss_syntax::{Expr, RefinementItem, TargetTree};
 use port_types::{NoMemory, PortId, PortType};
 use spec_model::{FreeOrder, Source, Target, Uses, Wire, Wires};
 use std::alloc::Global;
+
+/// Of expressions with at most so many names no pairs are kept.
+const LONG: usize = 16;
 
 /// The target that a port of this direction is; the first own port where it is none.
 fn directed_target(input: bool, sub: Option<SubId>, found: Option<FoundPort>) -> Target
@@ -120,24 +126,112 @@ fn target_admits(
     }
 }
 
+/// The same of a port that a connection names and one that it reads; a pair that fits is kept.
+fn admits_known(
+    alloc: Global,
+    sightings: &mut Sightings,
+    known: &mut KnownFits,
+    scope: &RefinementScope,
+    target: &TargetTree,
+    wanted: PortPlace,
+    source: &Typed,
+    given: PortPlace,
+) -> Result<bool, NoMemory>
+    requires known { fitting.KnowsFits scope.now known.old.kept.items }
+    requires wanted { fitting.IsPortAt (map walks.interface scope.now.scopes.now) wanted
+        (fitting.wants_input target.now) (fitting.found_target (walks.refinement scope.now) target.now) }
+    requires given { fitting.IsPortRead (map walks.interface scope.now.scopes.now) given (walks.typed source.now) }
+    ensures known { OnOk result (fitting.KnowsFits scope.now known.new.kept.items) }
+    ensures fit { IfOk result (λ fit. fit ≡ faults.admits_source
+        (walks.kind_by (walks.refinement scope.now) target.now) (walks.typed source.now)) }
+{
+    if known.tell(wanted, given) {
+        Ok(true)
+    } else {
+        let fit = target_admits(alloc, sightings, scope, target, source)?;
+        known.keep_if(fit, wanted, given)?;
+        Ok(fit)
+    }
+}
+
+/// The same of an expression that may be the port at this place.
+fn admits_once(
+    alloc: Global,
+    sightings: &mut Sightings,
+    known: &mut KnownFits,
+    scope: &RefinementScope,
+    target: &TargetTree,
+    source: &Typed,
+    place: Option<PortPlace>,
+) -> Result<bool, NoMemory>
+    requires known { fitting.KnowsFits scope.now known.old.kept.items }
+    requires place { IfSome place (λ p. fitting.IsPortRead (map walks.interface scope.now.scopes.now) p
+        (walks.typed source.now)) }
+    ensures known { OnOk result (fitting.KnowsFits scope.now known.new.kept.items) }
+    ensures fit { IfOk result (λ fit. fit ≡ faults.admits_source
+        (walks.kind_by (walks.refinement scope.now) target.now) (walks.typed source.now)) }
+{
+    match place {
+        None => target_admits(alloc, sightings, scope, target, source),
+        Some(given) => match place_of_target(scope, target) {
+            None => target_admits(alloc, sightings, scope, target, source),
+            Some(wanted) => admits_known(
+                alloc, sightings, known, scope, target, wanted, source, given,
+            ),
+        },
+    }
+}
+
 /// Notes a type mismatch where the expression may not be the value of the target, unless an earlier fault is known.
 fn note_source(
     alloc: Global,
     sightings: &mut Sightings,
+    known: &mut KnownFits,
     scope: &RefinementScope,
     target: &TargetTree,
     source: &Typed,
+    place: Option<PortPlace>,
     offset: u32,
     first: &mut FirstSite,
 ) -> Result<(), NoMemory>
-    ensures { OnOk result (first.new ≡ noted (faults.mismatch_unless (faults.admits_source
+    requires known { fitting.KnowsFits scope.now known.old.kept.items }
+    requires place { IfSome place (λ p. fitting.IsPortRead (map walks.interface scope.now.scopes.now) p
+        (walks.typed source.now)) }
+    ensures known { OnOk result (fitting.KnowsFits scope.now known.new.kept.items) }
+    ensures first { OnOk result (first.new ≡ noted (faults.mismatch_unless (faults.admits_source
         (walks.kind_by (walks.refinement scope.now) target.now) (walks.typed source.now)) offset) first.old) }
 {
-    if !is_settled(offset, first) {
-        let fit = target_admits(alloc, sightings, scope, target, source)?;
+    if is_settled(offset, first) {
+        Ok(())
+    } else {
+        let fit = admits_once(alloc, sightings, known, scope, target, source, place)?;
         note_unless(fit, offset, first);
+        Ok(())
     }
-    Ok(())
+}
+
+/// Whether the expression is a pick of many names, so that its pairs are worth to be kept.
+fn is_long(typed: &Typed) -> bool {
+    match typed {
+        Typed::Truth(_) => false,
+        Typed::Number(_, _) => false,
+        Typed::Choice(_, set) => set.names.len() > LONG,
+    }
+}
+
+/// The port that an expression reads, where it is that port and nothing else, and has many names.
+fn long_source(scope: &RefinementScope, typed: &Typed, source: &Expr) -> Option<PortPlace>
+    requires { slice_get (map walks.interface scope.now.scopes.now) scope.now.place
+        ≡ Some (walks.interface scope.now.own) }
+    ensures { IfSome result (λ place. fitting.IsPortAt (map walks.interface scope.now.scopes.now) place
+        (fitting.reads_input (tree source.now)) (fitting.found_source (walks.refinement scope.now)
+        (tree source.now))) }
+{
+    if is_long(typed) {
+        place_of_source(scope, source)
+    } else {
+        None
+    }
 }
 
 fn source_of(typed: Typed) -> Source
@@ -155,12 +249,15 @@ fn source_of(typed: Typed) -> Source
 fn wire<'a>(
     alloc: Global,
     sightings: &mut Sightings,
+    known: &mut KnownFits,
     scope: &RefinementScope<'a>,
     order: &FreeOrder,
     target: &TargetTree,
     source: &'a Expr,
     first: &mut FirstSite,
 ) -> Result<Wire, NoMemory>
+    requires { fitting.KnowsFits scope.now known.old.kept.items }
+    ensures known { OnOk result (fitting.KnowsFits scope.now known.new.kept.items) }
     ensures wire { IfOk result (λ w. Some (meanings.wire_meaning w)
         ≡ making.wire_in (walks.target_by (walks.refinement scope.now)) (walks.connection_reading_by
         (walks.refinement scope.now) order.now)
@@ -171,12 +268,15 @@ fn wire<'a>(
 {
     let names = Scope::Connection(*scope, order);
     let (typed, uses) = used_expression(alloc, sightings, &names, source, first)?;
+    let place = long_source(scope, &typed, source);
     note_source(
         alloc,
         sightings,
+        known,
         scope,
         target,
         &typed,
+        place,
         start(source),
         first,
     )?;
@@ -192,12 +292,15 @@ fn wire<'a>(
 fn put_wire<'a>(
     alloc: Global,
     sightings: &mut Sightings,
+    known: &mut KnownFits,
     scope: &RefinementScope<'a>,
     order: &FreeOrder,
     item: &'a RefinementItem,
     wires: &mut Wires,
     first: &mut FirstSite,
 ) -> Result<(), NoMemory>
+    requires { fitting.KnowsFits scope.now known.old.kept.items }
+    ensures known { OnOk result (fitting.KnowsFits scope.now known.new.kept.items) }
     ensures wires { OnOk result (map meanings.wire_meaning wires.new ≡ map meanings.wire_meaning wires.old ++
         cons_option
         (making.wire_in (walks.target_by (walks.refinement scope.now))
@@ -211,7 +314,8 @@ fn put_wire<'a>(
             component: _,
         } => Ok(()),
         RefinementItem::Connection { target, source } => {
-            wires.push(wire(alloc, sightings, scope, order, target, source, first)?)
+            let made = wire(alloc, sightings, known, scope, order, target, source, first)?;
+            wires.push(made)
         }
         RefinementItem::Contract { name: _, parts: _ } => Ok(()),
     }
@@ -221,11 +325,14 @@ fn put_wire<'a>(
 pub(crate) fn wires_of<'a>(
     alloc: Global,
     sightings: &mut Sightings,
+    known: &mut KnownFits,
     scope: &RefinementScope<'a>,
     order: &FreeOrder,
     items: &'a [RefinementItem],
     first: &mut FirstSite,
 ) -> Result<Wires, NoMemory>
+    requires { fitting.KnowsFits scope.now known.old.kept.items }
+    ensures known { OnOk result (fitting.KnowsFits scope.now known.new.kept.items) }
     ensures wires { IfOk result (λ made. map meanings.wire_meaning made ≡ filter_map
         (making.wire_in (walks.target_by (walks.refinement scope.now))
         (walks.connection_reading_by (walks.refinement scope.now) order.now)) items.now) }
@@ -235,7 +342,9 @@ pub(crate) fn wires_of<'a>(
 {
     let mut wires = Wires::new(alloc);
     for item in items {
-        put_wire(alloc, sightings, scope, order, item, &mut wires, first)?;
+        put_wire(
+            alloc, sightings, known, scope, order, item, &mut wires, first,
+        )?;
     }
     Ok(wires)
 }

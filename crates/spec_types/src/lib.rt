@@ -10,8 +10,10 @@ mod declarations;
 mod enumerations;
 mod fits;
 mod intervals;
+mod known_fits;
 mod laws;
 mod operators;
+mod port_places;
 mod ports;
 mod scope;
 #[cfg(test)]

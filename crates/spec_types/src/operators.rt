@@ -72,7 +72,8 @@ fn number_equality(left: Term, values: Interval, right: Typed) -> Formula
 }
 
 fn pick_equality(left: Pick, set: NameSet, right: Typed) -> Formula
-    ensures { meaning result ≡ specs.equality (specs.Pick (choice_of left) set.entry.names.now) (walks.typed right.entry) }
+    ensures { meaning result ≡ specs.equality (specs.Pick (choice_of left) set.entry.names.now)
+        (walks.typed right.entry) }
 {
     let _ = set;
     match right {

@@ -22,11 +22,13 @@ pub struct PortScope<'a> {
     pub first_type: u32,
 }
 
-/// What a refinement sees: the own ports, the places of the names of subcomponents, for each subcomponent the
-/// place of its component, if that one exists, and the ports of all components.
+/// What a refinement sees: the own ports and the place of their component among all, the places of the names of
+/// subcomponents, for each subcomponent the place of its component, if that one exists, and the ports of all
+/// components.
 #[derive(Clone, Copy)]
 pub struct RefinementScope<'a> {
     pub own: PortScope<'a>,
+    pub place: usize,
     pub subs: &'a PlaceTable,
     pub components: &'a [Option<u32>],
     pub scopes: &'a [PortScope<'a>],
@@ -65,7 +67,8 @@ pub(crate) fn find_port<'a>(scope: PortScope<'a>, name: &str) -> Option<FoundPor
     }
 }
 
-fn number(place: usize) -> Result<u32, NoMemory>
+/// A place as a number of 32 bits.
+pub(crate) fn number(place: usize) -> Result<u32, NoMemory>
     ensures { IfOk result (λ number. number ≡ place) }
 {
     match u32::try_from(place) {

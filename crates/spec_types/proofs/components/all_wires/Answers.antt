@@ -6,6 +6,10 @@ use Rattle.spec_types.specs.Tables as facts
 use Rattle.spec_types.proofs.Zips.{zipped_more, zipped_all, both_are, noted_both_more, noted_zip_all, zip_at, zip_short}
 use Rattle.spec_types.proofs.components.all_wires.Goals as goal
 
+pub put_wires-requires-clause-own : goal.put_wires-requires-clause-own
+put_wires-requires-clause-own c =
+    ap (option_map walks.interface) c.at-own.ensures ∙ sym (slice_get-map walks.interface c.args.scopes.now c.loop-place.place)
+
 pub loop-place-preserved : goal.loop-place-preserved
 loop-place-preserved c =
     let scopes = map walks.interface c.args.scopes.now in
@@ -21,6 +25,7 @@ loop-place-preserved c =
           c.put_wires.new.first c.loop-place.place _
           (zip_at (zip c.args.components.now scopes) c.args.refinements.now c.loop-place.place ∙ (λ j. facts.both (sym pair j) (sym c.at-tables.ensures j)))
           c.in_ok-put_wires.ensures.first c.loop-place.invariant.noted;
+      known = c.in_ok-put_wires.ensures.known;
     }
 
 pub returns-clause-wires : goal.returns-clause-wires

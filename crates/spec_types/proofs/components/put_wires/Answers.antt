@@ -33,3 +33,12 @@ returns-in_ok-push-in-Some-tables-clause-first c =
     })) c.args.first.now)
     ∙ (λ j. noted (option_map_or (facts.wire_faults_of_pair scopes) (facts.both (facts.both (option_copied (sym c.in-Some.is j))
     (option_map walks.interface (option_copied (sym c.in-Some-own.is j)))) (option_copied (sym c.in-Some-tables.is j))) []) c.args.first.now))
+
+pub component_wires-requires : goal.component_wires-requires
+component_wires-requires c = record {
+  own_is = sym c.requires.own ∙ ap (λ o. option_map walks.interface (option_copied o)) c.in-Some-own.is;
+  fit = c.requires.known;
+}
+
+pub returns-in_ok-push-in-Some-tables-clause-known : goal.returns-in_ok-push-in-Some-tables-clause-known
+returns-in_ok-push-in-Some-tables-clause-known c = c.in_ok-made-in-Some-tables.ensures.known.fit

@@ -9,6 +9,7 @@ loop-item-preserved c = record {
       c.loop-item-test.true c.item-item.is c.in_ok-put_wire.ensures.wires c.loop-item.invariant.built;
   noted = noted_more _ c.args.items.now c.args.first.now c.loop-item.first c.put_wire.new.first c.loop-item.item-index _
       c.loop-item-test.true c.item-item.is c.in_ok-put_wire.ensures.first c.loop-item.invariant.noted;
+  known = c.in_ok-put_wire.ensures.known;
 }
 
 pub returns-clause-wires : goal.returns-clause-wires
