@@ -2,3 +2,14 @@ pub mod WordTruth
 pub mod Conditions
 pub mod TruthStates
 pub mod MemberTruth
+pub mod PathLayers
+pub mod Growing
+pub mod SignClauses
+pub mod LeastBits
+pub mod LoopLaws
+pub mod FirstPaths
+pub mod LeastSteps
+pub mod LayerFacts
+pub mod Ties
+pub mod Walks
+pub mod KnownBits

@@ -1,6 +1,6 @@
-//! The law of lassos that break a question, for callers that cite it. The function has no code.
+//! Laws of lassos that break a question, for callers that cite them. None of these functions has code.
 
-ghost use Rattle.lasso_search.specs.Laws.{BreakingLassosAreTableauLassos};
+ghost use Rattle.lasso_search.specs.Laws.{BreakingLassosAreTableauLassos, AnswersAreOne};
 
 /// A lasso breaks a question exactly where a lasso of tableau states has its shape and its valuations.
 pub fn breaking_lassos()
@@ -9,3 +9,8 @@ pub fn breaking_lassos()
     // a law, no code runs
     port_types::values_by_kind();
 }
+
+/// A question has one answer.
+pub fn answers_are_one()
+    ensures { AnswersAreOne }
+{}

@@ -1,9 +1,17 @@
-//! Which lassos break a question: those that lassos of tableau states show.
+//! The search for the first lasso that breaks a question.
 //!
-//! The definitions in `specs/` say what a lasso of tableau states is (`TableauLassos`), and the law that a lasso breaks a
-//! question exactly where such a lasso has its shape and its valuations (`Laws`). May touch nothing.
+//! The definitions in `specs/` say which lassos break a question and what a lasso of tableau states is
+//! (`TableauLassos`), and that these agree (`Laws`). May touch nothing but the solver that it is lent, and memory.
 #![tactic(auto)]
 
+mod clauses;
 mod laws;
+mod least;
+mod paths;
+mod search;
+mod signs;
+#[cfg(test)]
+mod tests;
 
-pub use laws::breaking_lassos;
+pub use laws::{answers_are_one, breaking_lassos};
+pub use search::shortest;
