@@ -41,6 +41,7 @@ fn p_until_q(alloc: Global) -> Result<Formula, NoMemory>
 }
 
 /// The tableau of p until q, and the node of that.
+#[derive(Drop)]
 struct Asked {
     tableau: Tableau,
     node: NodeId,
