@@ -14,7 +14,7 @@ use Rattle.sat_core.specs.Search.{ClauseLists, HasClause, clause_of, IsDerivatio
 use Rattle.sat_core.specs.Search.{lit_at, step_at, opens_level}
 use Rattle.sat_core.specs.Learning.{OthersFalse, SameReference, Asserts}
 use Rattle.sat_core.proofs.Trails.{opposite-opposite, MadeTrue-later, one_place}
-use Rattle.sat_core.proofs.Chains.{before_or_at, IsDerivation-push, IsDerivation-start}
+use Rattle.sat_core.proofs.Chains.{before_or_at, IsDerivation-push}
 use Rattle.sat_core.proofs.Members.{more_cases}
 
 abbrev pub link_of : ℕ → ClauseRef → Resolution
@@ -105,18 +105,6 @@ derived_step k kf steps at step reason first new_first resolutions new_links lef
     let r2 = subst (λ (c : List Lit). Resolves left c (opposite step.lit) after) (sym a.1) r in
     let pushed = IsDerivation-push k first left after resolutions (link_of step.lit.var reason) (opposite step.lit) d a.0 refl r2 in
     subst (λ (s : ClauseRef). IsDerivation k s new_links after) (sym f) (subst (λ (ls : List Resolution). IsDerivation k first ls after) (sym l) pushed)
-
-pub derived_start : (k : ClauseLists) (first new_first : ClauseRef) (resolutions : List Resolution) (lits : List Lit)
-    → lits ≡ clause_of k first → new_first ≡ first → resolutions ≡ [] → HasClause k first
-    → IsDerivation k new_first resolutions lits
-derived_start k first new_first resolutions lits e f l named =
-    subst (λ (s : ClauseRef). IsDerivation k s resolutions lits) (sym f)
-    (subst (λ (ls : List Resolution). IsDerivation k first ls lits) (sym l)
-    (subst (λ (c : List Lit). IsDerivation k first [] c) (sym e) (IsDerivation-start k first named)))
-
-pub AllFalse-at : (steps : List Step) (n m : ℕ) (clause same : List Lit) → n ≡ m → same ≡ clause
-    → AllFalse steps n clause → AllFalse steps m same
-AllFalse-at steps n m clause same e f all = subst (λ k. AllFalse steps k same) e (subst (λ c. AllFalse steps n c) (sym f) all)
 
 pub max_left : (a b : ℕ) → a ≤ ord_max nat_cmp a b
 max_left a b = grind (arith, nat_tests)

@@ -1,16 +1,14 @@
 -- Resolution along the trail: what is reached, and that its literals stay false.
-use Rattle.std.proofs.Common.{◌≡◌, ◌≢◌, ◌+◌, ◌⊎◌, ℕ, false, List, [], ◌∷◌, ◌++◌, Contains, Some, refl, sym, ap, ◌∙◌, subst, inl, inr, arith}
+use Rattle.std.proofs.Common.{◌≡◌, ◌+◌, ◌⊎◌, ℕ, false, List, [], ◌∷◌, ◌++◌, Contains, Some, refl, sym, ap, ◌∙◌, inl, inr, arith}
 use Rattle.std.proofs.lemmas.Bool.{cases_eq}
 use Rattle.cnf.specs.declared.lit.Lit.{Lit}
-use Rattle.cnf.specs.Clauses.{opposite}
 use Rattle.clause_log.specs.Derivations.{SameLits, Resolves}
 use Rattle.sat_core.specs.declared.clause_ref.ClauseRef.{ClauseRef}
 use Rattle.sat_core.specs.declared.clause_ref.ClauseRef.TheVariants.{Added, Learnt, Assumed}
 use Rattle.sat_core.specs.declared.trail.Step.{Step}
 use Rattle.sat_core.specs.declared.chain.Resolution.{Resolution}
-use Rattle.sat_core.specs.Search.{ClauseLists, clause_lists, HasClause, clause_of, ResolvesTo, IsDerivation, lit_at, MadeTrue, AllFalse, Forces}
-use Rattle.sat_core.specs.Search.{opens_level, IsWithout, IsJoined}
-use Rattle.sat_core.proofs.Trails.{opposite-opposite}
+use Rattle.sat_core.specs.Search.{ClauseLists, clause_lists, HasClause, clause_of, ResolvesTo, IsDerivation, lit_at, MadeTrue, AllFalse}
+use Rattle.sat_core.specs.Search.{opens_level}
 
 pub same-refl : (xs : List Lit) → SameLits xs xs
 same-refl xs = λ lit. (λ h. h, λ h. h)
@@ -58,31 +56,6 @@ before_or_at steps n at lit e t =
       | inr other ↦ inl (t.0, omega (arith, t.1, other), t.2)
     ]
 
--- a literal of the trail that is not used is passed by
-pub skip_false : (steps : List Step) (n at : ℕ) (clause : List Lit) → n ≡ at + 1 → AllFalse steps n clause
-    → (Contains clause (opposite (lit_at steps at)) → ⊥) → AllFalse steps at clause
-skip_false steps n at clause e false' unused lit has =
-    elim (before_or_at steps n at (opposite lit) e (false' lit has)) [
-      | inl before ↦ before
-      | inr here ↦ absurd (unused (subst (λ l. Contains clause l) (sym (opposite-opposite lit) ∙ ap opposite (sym here)) has))
-    ]
-
--- a resolution with the reason of the literal leaves literals that were false before it
-pub resolve_false : (steps : List Step) (n at : ℕ) (left clause after : List Lit) (lit : Lit) → n ≡ at + 1
-    → lit_at steps at ≡ lit → AllFalse steps n left → Forces steps at clause lit
-    → Resolves left clause (opposite lit) after → AllFalse steps at after
-resolve_false steps n at left clause after lit e is false' forces r m has =
-    elim ((r.resolvent m).0 has) [
-      | inl l ↦ elim (before_or_at steps n at (opposite m) e (false' m l.0)) [
-        | inl before ↦ before
-        | inr here ↦ absurd (l.1 (sym (opposite-opposite m) ∙ ap opposite (sym here ∙ is)))
-      ]
-      | inr x ↦ elim (forces.others m x.0) [
-        | inl same ↦ absurd (x.1 (same ∙ sym (opposite-opposite lit)))
-        | inr before ↦ before
-      ]
-    ]
-
 pub Contains-head : (x : Lit) (xs : List Lit) → Contains (x ∷ xs) x
 Contains-head x xs = (0, omega arith, refl)
 
@@ -90,30 +63,6 @@ Contains-head x xs = (0, omega arith, refl)
 pub none_false : (steps : List Step) (clause : List Lit) → AllFalse steps 0 clause → clause ≡ []
 none_false steps [] h = refl
 none_false steps (x ∷ xs) h = absurd (omega (arith, (h x (Contains-head x xs)).1))
-
--- the removal of a literal from one side and of its opposite from the other
-pub resolves_from : (left right mid after : List Lit) (lit : Lit) → Contains left (opposite lit) → Contains right lit
-    → ((m : Lit) → (Contains mid m → Contains left m × (m ≢ opposite lit)) ×
-    (Contains left m × (m ≢ opposite lit) → Contains mid m))
-    → ((m : Lit) → (Contains after m → Contains mid m ⊎ (Contains right m × (m ≢ lit))) ×
-    (Contains mid m ⊎ (Contains right m × (m ≢ lit)) → Contains after m)) → Resolves left right (opposite lit) after
-resolves_from left right mid after lit on_left on_right dropped resolvent = record {
-  on_left = on_left;
-  on_right = subst (λ l. Contains right l) (sym (opposite-opposite lit)) on_right;
-  resolvent = λ m. (
-    λ h. elim ((resolvent m).0 h) [ inl x ↦ inl ((dropped m).0 x) | inr y ↦ inr (y.0, λ e. y.1 (e ∙ opposite-opposite lit)) ],
-    λ h. (resolvent m).1 (elim h [ inl x ↦ inl ((dropped m).1 x) | inr y ↦ inr (y.0, λ e. y.1 (e ∙ sym (opposite-opposite lit))) ]),
-  );
-}
-
-pub resolved : (left right mid after sl r : List Lit) (lit neg : Lit) → sl ≡ left → neg ≡ opposite lit → r ≡ right
-    → IsWithout sl neg mid → IsJoined mid r lit after → Contains left (opposite lit) × Contains right lit
-    → Resolves left right (opposite lit) after
-resolved left right mid after sl r lit neg e1 e2 e3 d j (on_left, on_right) =
-    let d1 = subst (λ (n : Lit). IsWithout sl n mid) e2 d in
-    let d2 = subst (λ (l : List Lit). IsWithout l (opposite lit) mid) e1 d1 in
-    let j1 = subst (λ (l : List Lit). IsJoined mid l lit after) e3 j in
-    resolves_from left right mid after lit on_left on_right d2 j1
 
 -- a clause that was added or learnt needs no assumption
 pub named_without : (added learnt : List (List Lit)) (assumed : List Lit) (reason : ClauseRef)

@@ -9,6 +9,7 @@ pub mod LearntKept
 pub mod LitSets
 pub mod Logs
 pub mod Measure
+pub mod Meetings
 pub mod Members
 pub mod Models
 pub mod Orders

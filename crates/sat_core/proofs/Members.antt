@@ -3,7 +3,7 @@ use Rattle.std.proofs.Common.{◌≡◌, ◌<◌, ◌+◌, ◌⊎◌, ℕ, List,
 use Rattle.std.proofs.lemmas.List.{take_more, get_or_read, get_or_default}
 use Rattle.std.proofs.lemmas.List.Elements.{Contains-append_left, Contains-push, Contains-push_cases}
 use Rattle.cnf.specs.declared.lit.Lit.{Lit}
-use Rattle.sat_core.specs.Search.{IsWithout, IsJoined}
+use Rattle.sat_core.specs.Search.{IsWithout}
 
 abbrev pub any_lit : Lit
 any_lit = record { var = 0; positive = false }
@@ -48,37 +48,5 @@ module _ (xs : List Lit) (i : ℕ) (x : Lit) (h : i < length xs) (e : x ≡ get_
     λ c. elim (more_cases m c.0) [
       | inl old ↦ (w m).1 (old, c.1)
       | inr new ↦ absurd (c.1 (sym new ∙ s))
-    ],
-  )
-
-  pub resolvent-keep : (old : List Lit) (but : Lit) (all : List Lit) → (x ≡ but → ⊥)
-      → IsJoined old (take i xs) but all → IsJoined old (take (i + 1) xs) but (all ++ x ∷ [])
-  resolvent-keep old but all n j m = (
-    λ c. elim (Contains-push_cases all x m c) [
-      | inl was ↦ elim ((j m).0 was) [ inl o ↦ inl o | inr t ↦ inr (more_old m t.0, t.1) ]
-      | inr new ↦ inr (subst (λ l. Contains (take (i + 1) xs) l) new more_new, λ q. n (new ∙ q))
-    ],
-    λ c. elim c [
-      | inl o ↦ Contains-append_left all (x ∷ []) m ((j m).1 (inl o))
-      | inr t ↦ elim (more_cases m t.0) [
-        | inl was ↦ Contains-append_left all (x ∷ []) m ((j m).1 (inr (was, t.1)))
-        | inr new ↦ subst (λ l. Contains (all ++ x ∷ []) l) new (Contains-push all x)
-      ]
-    ],
-  )
-
-  pub resolvent-there : (old : List Lit) (but : Lit) (all : List Lit) → (x ≡ but) ⊎ Contains all x
-      → IsJoined old (take i xs) but all → IsJoined old (take (i + 1) xs) but all
-  resolvent-there old but all d j m = (
-    λ c. elim ((j m).0 c) [ inl o ↦ inl o | inr t ↦ inr (more_old m t.0, t.1) ],
-    λ c. elim c [
-      | inl o ↦ (j m).1 (inl o)
-      | inr t ↦ elim (more_cases m t.0) [
-        | inl was ↦ (j m).1 (inr (was, t.1))
-        | inr new ↦ elim d [
-          | inl s ↦ absurd (t.1 (sym new ∙ s))
-          | inr has ↦ subst (λ l. Contains all l) new has
-        ]
-      ]
     ],
   )

@@ -23,7 +23,7 @@ use Rattle.sat_core.specs.Search.{ClauseLists, clause_lists, unit_clause, HasCla
 use Rattle.sat_core.specs.Search.{AssumptionsTrue, IsTrail, AllWithin, IsDerivation, level_marks, trail_weight, weight}
 use Rattle.sat_core.specs.Learning.{IsFalseClause, Asserts, IsLearntFrom}
 use Rattle.sat_core.specs.Decisions.{AreTrueTo, NoneFalse}
-use Rattle.sat_core.specs.Watching.{IsPropagator, AllSettled, NoConflict, IsForcedBy, Propagates}
+use Rattle.sat_core.specs.Watching.{IsPropagator, AllSettled, NoConflict, IsForcedBy, AreForced, Propagates}
 use Rattle.sat_core.specs.Engines.{AreKept, AreUnits, IsCovered, Keeps, Propagated, IsEngine, IsEngineAtRest, IsSearching, CanFollow, TakesStep}
 use Rattle.sat_core.specs.Engines.{step_weight, IsLonger}
 use Rattle.sat_core.specs.Engines.IsCovered.{Kept, InUnits, Tautology, Empty}
@@ -35,7 +35,7 @@ use Rattle.sat_core.proofs.Measure.{weight-push, weight-pos}
 use Rattle.sat_core.proofs.Chains.{Contains-head}
 use Rattle.sat_core.proofs.Searching.{in_unit, lesson_turns, false_clause_within, Forces-take, within_same, cut_free, assumptions_true}
 use Rattle.sat_core.proofs.EngineLaws.{NoConflict-take, NoConflict-start, propagator_back, propagator_less}
-use Rattle.sat_core.proofs.EngineLaws.{propagator_full}
+use Rattle.sat_core.proofs.EngineLaws.{propagator_full, AreForced-none}
 use Rattle.sat_core.proofs.Keeping.{IsDerivation-same, over_same}
 
 -- whether a clause is conflicting depends on the clauses alone
@@ -491,6 +491,34 @@ back_is e p keep (trail, queue) (vars, queue_vars) (steps, waiting) (links, refe
     derivations = refl;
   };
   phases = refl;
+}
+
+-- ---- an engine where nothing waits any more
+
+abbrev pub with_waiting : Engine → Trail → Engine
+with_waiting e waiting =
+    with_propagator e
+    (record { links = e.propagator.links; references = e.propagator.references; trail = e.propagator.trail; waiting = waiting })
+
+pub emptied : (added : List (List Lit)) (e : Engine) (waiting : Trail) → IsEngine added e
+    → IsTrail waiting.steps.items waiting.places.items
+    → length waiting.places.items ≡ length e.propagator.waiting.places.items → waiting.steps.items ≡ []
+    → IsEngine added (with_waiting e waiting)
+emptied added e waiting s trail vars none = record {
+  propagator = record {
+    trail = s.propagator.trail;
+    vars = s.propagator.vars;
+    queue = trail;
+    queue_vars = vars ∙ s.propagator.queue_vars;
+    referred = s.propagator.referred;
+    settled = s.propagator.settled;
+    forced =
+        subst (λ (l : List Step). AreForced e.propagator.links e.propagator.references.items e.propagator.trail.steps.items l) (sym none)
+        (AreForced-none e.propagator.links e.propagator.references.items e.propagator.trail.steps.items);
+  };
+  settled = s.settled;
+  keeps = s.keeps;
+  phases = s.phases;
 }
 
 -- the literal that is forced, by the clause in another order, after the return

@@ -1,6 +1,7 @@
 pub mod Decisions
 pub mod Engines
 pub mod Learning
+pub mod Meeting
 pub mod Numbering
 pub mod Outcomes
 pub mod Search

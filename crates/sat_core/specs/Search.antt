@@ -165,7 +165,3 @@ AllWithin n clauses = (place : ℕ) → place < length clauses → (lit : Lit)
 -- the literals are those of the first list without one
 abbrev pub IsWithout : List Lit → Lit → List Lit → Type 0
 IsWithout lits lit rest = (m : Lit) → Contains rest m ↔ (Contains lits m × (m ≢ lit))
-
--- the literals are those of one list and those of another without one
-abbrev pub IsJoined : List Lit → List Lit → Lit → List Lit → Type 0
-IsJoined lits more but all = (m : Lit) → Contains all m ↔ (Contains lits m ⊎ (Contains more m × (m ≢ but)))

@@ -1,16 +1,20 @@
 //! Conflict analysis: `analyse` resolves back along the trail to the first unique implication point. It
 //! reads the trail and the clauses, and makes a new clause with its derivation.
+//!
+//! It may touch the set that it is lent, which it leaves empty.
 
-ghost use Rattle.std.specs.Prelude.{◌≡◌, ◌<◌, ◌≤◌, ◌+◌, ℕ, true, false, [], length, IfOk, IfSome, OnOk, Contains, None};
+ghost use Rattle.std.specs.Prelude.{◌≡◌, ◌<◌, ◌≤◌, ◌+◌, ℕ, true, false, [], length, IsTrue, IfOk, IfSome, OnOk, Contains, None};
 ghost use Rattle.cnf.specs.Clauses.{opposite};
 ghost use Rattle.sat_core.specs.Search.{IsTrail, Justified, ClauseLists, clause_lists, lists_of, IsDerivation};
 ghost use Rattle.sat_core.specs.Search.{HasClause, clause_of, AllFalse, MadeTrue, lit_at, step_at, opens_level};
 ghost use Rattle.sat_core.specs.Learning.{IsFalseClause};
 ghost use Rattle.sat_core.specs.Learning.{OthersFalse, SameReference, Asserts, IsLearntFrom};
+ghost use Rattle.sat_core.specs.Meeting.{Met, IsMetSet, reached};
 
-use crate::chain::{Derivation, Resolvent, has};
-use crate::clause_ref::{ClauseRef, Database};
-use crate::trail::Trail;
+use crate::chain::{Derivation, Resolution, has};
+use crate::clause_ref::{ClauseRef, Database, lits};
+use crate::meet::{meet_all, reached};
+use crate::trail::{Step, Trail, opens};
 use cnf::Lit;
 use port_types::NoMemory;
 use std::alloc::Global;
@@ -79,32 +83,140 @@ fn backjump_point(trail: &Trail, at: usize, lits: &[Lit]) -> Option<usize>
     trail.opening(end, at + 1)
 }
 
-/// Resolves with the reason of a step, if the literals have its opposite.
+/// Whether a step with so many literals of its level met surely is no unique implication point.
+fn is_inner(step: Step, open: usize) -> bool
+    ensures { IsTrue result → opens_level step.reason ≡ false }
+{
+    if opens(step) { false } else { open > 1 }
+}
+
+/// Whether the step of a literal that was met may be a unique implication point.
+fn is_candidate(trail: &Trail, set: &Trail, at: usize, open: usize) -> bool
+    requires at { at < length trail.now.steps.items }
+    requires met { IsMetSet trail.now.steps.items trail.now.places.items set.now.steps.items set.now.places.items }
+    requires trail { IsTrail trail.now.steps.items trail.now.places.items }
+    ensures { result ≡ false → Met set.now.steps.items (opposite (lit_at trail.now.steps.items at))
+        → opens_level (step_at trail.now.steps.items at).reason ≡ false }
+{
+    let step = trail.step(at);
+    match set.place(step.lit.var) {
+        None => false,
+        Some(_) => !is_inner(step, open),
+    }
+}
+
+/// Where the literals reached force the opposite of the step's, if they do; `open` counts those of the last level.
+fn turning_point(
+    alloc: Global,
+    trail: &Trail,
+    set: &Trail,
+    at: usize,
+    open: usize,
+) -> Result<Option<usize>, NoMemory>
+    requires trail { IsTrail trail.now.steps.items trail.now.places.items }
+    requires at { at < length trail.now.steps.items }
+    requires met { IsMetSet trail.now.steps.items trail.now.places.items set.now.steps.items set.now.places.items }
+    ensures some { IfOk result (λ found. IfSome found (λ keep. Asserts trail.now.steps.items
+        (reached trail.now.places.items (at + 1) set.now.steps.items)
+        (opposite (lit_at trail.now.steps.items at)) keep)) }
+    ensures none { IfOk result (λ found. found ≡ None
+        → Met set.now.steps.items (opposite (lit_at trail.now.steps.items at))
+        → opens_level (step_at trail.now.steps.items at).reason ≡ false) }
+{
+    if !is_candidate(trail, set, at, open) {
+        return Ok(None);
+    }
+    let lits = reached(alloc, trail, set, at + 1)?;
+    Ok(backjump_point(trail, at, lits.as_slice()))
+}
+
+/// Resolves with the reason of a step, if its variable was met, and answers how many literals are met that
+/// stand from a place of the trail on and before the step, where `open` counted the step too.
 fn resolve_at(
     database: Database<'_>,
     trail: &Trail,
     at: usize,
-    resolvent: &mut Resolvent,
-) -> Result<(), NoMemory>
+    set: &mut Trail,
+    derivation: &mut Derivation,
+    from: usize,
+    open: usize,
+) -> Result<usize, NoMemory>
+    requires trail { IsTrail trail.now.steps.items trail.now.places.items }
     requires at { at < length trail.now.steps.items }
     requires justified { Justified (lists_of database) trail.now.steps.items }
-    requires forced { Contains resolvent.old.lits.items (opposite (lit_at trail.now.steps.items at))
+    requires met { IsMetSet trail.now.steps.items trail.now.places.items set.old.steps.items set.old.places.items }
+    requires forced { Met set.old.steps.items (opposite (lit_at trail.now.steps.items at))
         → (step_at trail.now.steps.items at).reason ≡ None → ⊥ }
-    requires all { AllFalse trail.now.steps.items (at + 1) resolvent.old.lits.items }
-    ensures all { OnOk result (AllFalse trail.now.steps.items at resolvent.new.lits.items) }
+    ensures met { IsMetSet trail.now.steps.items trail.now.places.items set.new.steps.items set.new.places.items }
     ensures derived { OnOk result ((k : ClauseLists)
-        → (Contains resolvent.old.lits.items (opposite (lit_at trail.now.steps.items at))
+        → (Met set.old.steps.items (opposite (lit_at trail.now.steps.items at))
         → SameReference k (lists_of database.entry) (step_at trail.now.steps.items at).reason)
-        → IsDerivation k resolvent.old.derivation.first resolvent.old.derivation.rest.items resolvent.old.lits.items
-        → IsDerivation k resolvent.new.derivation.first resolvent.new.derivation.rest.items resolvent.new.lits.items) }
+        → IsDerivation k derivation.old.first derivation.old.rest.items
+        (reached trail.now.places.items (at + 1) set.old.steps.items)
+        → IsDerivation k derivation.new.first derivation.new.rest.items
+        (reached trail.now.places.items at set.new.steps.items)) }
 {
     let step = trail.step(at);
-    if has(resolvent.lits.as_slice(), step.lit.negated()) {
-        if let Some(reason) = step.reason {
-            resolvent.resolve(database, step.lit, reason)?;
-        }
+    match set.place(step.lit.var) {
+        None => Ok(open),
+        Some(_) => match step.reason {
+            None => Ok(open),
+            Some(reason) => {
+                derivation.rest.push(Resolution {
+                    var: step.lit.var,
+                    reason,
+                })?;
+                let came = meet_all(set, lits(database, reason), trail, from);
+                Ok(open.saturating_sub(1).saturating_add(came))
+            }
+        },
     }
-    Ok(())
+}
+
+/// `analyse` over an empty set.
+fn trace(
+    alloc: Global,
+    database: Database<'_>,
+    trail: &Trail,
+    set: &mut Trail,
+    reason: ClauseRef,
+) -> Result<LearntClause, NoMemory>
+    requires trail { IsTrail trail.now.steps.items trail.now.places.items }
+    requires justified { Justified (lists_of database) trail.now.steps.items }
+    requires falsified { IsFalseClause (lists_of database) trail.now.steps.items reason }
+    requires set { IsTrail set.old.steps.items set.old.places.items }
+    requires vars { length set.old.places.items ≡ length trail.now.places.items }
+    requires empty { set.old.steps.items ≡ [] }
+    ensures lesson { IfOk result (λ learnt_clause. IsLearntFrom
+        (clause_lists database.entry.added.now database.entry.learnt.now []) trail.now.steps.items learnt_clause) }
+    ensures set { IsTrail set.new.steps.items set.new.places.items }
+    ensures vars { length set.new.places.items ≡ length set.old.places.items }
+{
+    let from = trail.last_opening();
+    let mut derivation = Derivation {
+        first: reason,
+        rest: Vec::new(alloc),
+    };
+    let mut open = meet_all(set, lits(database, reason), trail, from);
+    let mut at = trail.len();
+    while at > 0 {
+        at -= 1;
+        if let Some(keep) = turning_point(alloc, trail, set, at, open)? {
+            let lits = reached(alloc, trail, set, at + 1)?;
+            let lit = trail.step(at).lit.negated();
+            return Ok(LearntClause {
+                lits,
+                derivation,
+                backjump: Some(Backjump { lit, keep }),
+            });
+        }
+        open = resolve_at(database, trail, at, set, &mut derivation, from, open)?;
+    }
+    Ok(LearntClause {
+        lits: Vec::new(alloc),
+        derivation,
+        backjump: None,
+    })
 }
 
 /// Learns from a clause whose literals are all false: resolves back along the trail to the first
@@ -113,42 +225,32 @@ pub fn analyse(
     alloc: Global,
     database: Database<'_>,
     trail: &Trail,
+    set: &mut Trail,
     reason: ClauseRef,
 ) -> Result<LearntClause, NoMemory>
     requires trail { IsTrail trail.now.steps.items trail.now.places.items }
     requires justified { Justified (lists_of database) trail.now.steps.items }
     requires falsified { IsFalseClause (lists_of database) trail.now.steps.items reason }
-    ensures { IfOk result (λ learnt_clause. IsLearntFrom
+    requires set { IsTrail set.old.steps.items set.old.places.items }
+    requires vars { length set.old.places.items ≡ length trail.now.places.items }
+    ensures lesson { IfOk result (λ learnt_clause. IsLearntFrom
         (clause_lists database.entry.added.now database.entry.learnt.now []) trail.now.steps.items learnt_clause) }
+    ensures set { IsTrail set.new.steps.items set.new.places.items }
+    ensures vars { length set.new.places.items ≡ length set.old.places.items }
+    ensures empty { set.new.steps.items ≡ [] }
 {
-    let mut resolvent = Resolvent::new(alloc, database, reason)?;
-    let mut at = trail.len();
-    while at > 0 {
-        at -= 1;
-        if let Some(keep) = backjump_point(trail, at, resolvent.lits.as_slice()) {
-            let lit = trail.step(at).lit.negated();
-            let Resolvent { lits, derivation } = resolvent;
-            return Ok(LearntClause {
-                lits,
-                derivation,
-                backjump: Some(Backjump { lit, keep }),
-            });
-        }
-        resolve_at(database, trail, at, &mut resolvent)?;
-    }
-    let Resolvent { lits, derivation } = resolvent;
-    Ok(LearntClause {
-        lits,
-        derivation,
-        backjump: None,
-    })
+    set.backtrack(0);
+    let learnt_clause = trace(alloc, database, trail, set, reason);
+    set.backtrack(0);
+    learnt_clause
 }
 
-/// Derives the empty clause from a clause whose literals are all false, where no step was decided.
-pub fn refute(
+/// `refute` over an empty set.
+fn trace_back(
     alloc: Global,
     database: Database<'_>,
     trail: &Trail,
+    set: &mut Trail,
     reason: ClauseRef,
 ) -> Result<Derivation, NoMemory>
     requires trail { IsTrail trail.now.steps.items trail.now.places.items }
@@ -158,16 +260,52 @@ pub fn refute(
         (clause_of (lists_of database) reason) }
     requires undecided { (p : ℕ) → p < length trail.now.steps.items
         → (step_at trail.now.steps.items p).reason ≡ None → ⊥ }
-    ensures { IfOk result (λ derivation. IsDerivation (lists_of database.entry) derivation.first
+    requires set { IsTrail set.old.steps.items set.old.places.items }
+    requires vars { length set.old.places.items ≡ length trail.now.places.items }
+    requires empty { set.old.steps.items ≡ [] }
+    ensures derived { IfOk result (λ derivation. IsDerivation (lists_of database.entry) derivation.first
         derivation.rest.items []) }
+    ensures set { IsTrail set.new.steps.items set.new.places.items }
+    ensures vars { length set.new.places.items ≡ length set.old.places.items }
 {
-    let mut resolvent = Resolvent::new(alloc, database, reason)?;
+    let mut derivation = Derivation {
+        first: reason,
+        rest: Vec::new(alloc),
+    };
+    let _ = meet_all(set, lits(database, reason), trail, 0);
     let mut at = trail.len();
     while at > 0 {
         at -= 1;
-        resolve_at(database, trail, at, &mut resolvent)?;
+        let _ = resolve_at(database, trail, at, set, &mut derivation, 0, 0)?;
     }
-    let Resolvent { lits, derivation } = resolvent;
-    drop(lits);
     Ok(derivation)
+}
+
+/// Derives the empty clause from a clause whose literals are all false, where no step was decided.
+pub fn refute(
+    alloc: Global,
+    database: Database<'_>,
+    trail: &Trail,
+    set: &mut Trail,
+    reason: ClauseRef,
+) -> Result<Derivation, NoMemory>
+    requires trail { IsTrail trail.now.steps.items trail.now.places.items }
+    requires justified { Justified (lists_of database) trail.now.steps.items }
+    requires named { HasClause (lists_of database) reason }
+    requires all { AllFalse trail.now.steps.items (length trail.now.steps.items)
+        (clause_of (lists_of database) reason) }
+    requires undecided { (p : ℕ) → p < length trail.now.steps.items
+        → (step_at trail.now.steps.items p).reason ≡ None → ⊥ }
+    requires set { IsTrail set.old.steps.items set.old.places.items }
+    requires vars { length set.old.places.items ≡ length trail.now.places.items }
+    ensures derived { IfOk result (λ derivation. IsDerivation (lists_of database.entry) derivation.first
+        derivation.rest.items []) }
+    ensures set { IsTrail set.new.steps.items set.new.places.items }
+    ensures vars { length set.new.places.items ≡ length set.old.places.items }
+    ensures empty { set.new.steps.items ≡ [] }
+{
+    set.backtrack(0);
+    let derivation = trace_back(alloc, database, trail, set, reason);
+    set.backtrack(0);
+    derivation
 }

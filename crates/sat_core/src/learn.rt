@@ -51,7 +51,13 @@ impl Engine {
             lits,
             derivation,
             backjump,
-        } = analyse(alloc, database, &self.propagator.trail, reason)?;
+        } = analyse(
+            alloc,
+            database,
+            &self.propagator.trail,
+            &mut self.propagator.waiting,
+            reason,
+        )?;
         match backjump {
             None => Ok(Found::Answered(Answer::Unsat(derivation))),
             Some(backjump) => {

@@ -14,6 +14,7 @@ mod engine;
 mod learn;
 mod learnt;
 mod log;
+mod meet;
 mod opposites;
 mod order;
 mod outcome;

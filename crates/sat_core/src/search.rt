@@ -3,7 +3,7 @@
 //!
 //! It may touch all of the engine, and takes memory for learnt clauses and the model.
 
-ghost use Rattle.std.specs.Prelude.{◌<◌, ◌++◌, [], length, map, IfOk, Contains};
+ghost use Rattle.std.specs.Prelude.{◌≡◌, ◌<◌, ◌++◌, [], length, map, IfOk, Contains};
 ghost use Rattle.cnf.specs.Clauses.{IsModel};
 ghost use Rattle.sat_core.specs.declared.decide.Choice.TheVariants.{Refuted, Done};
 ghost use Rattle.sat_core.specs.Search.{lists_of, clause_lists, unit_clause, IsDerivation, trail_weight};
@@ -80,17 +80,20 @@ impl Engine {
 
     /// The derivation of the empty clause where an assumption is false.
     fn refuted<'a>(
-        &'a self,
+        &mut self,
         alloc: Global,
         added: &'a [Clause],
         assumed: &'a [Lit],
         index: usize,
     ) -> Result<Derivation, NoMemory>
-        requires search { IsSearching added.now assumed.now self.now }
-        requires false_ { Chooses (clause_lists added.now self.now.learnt.clauses.items assumed.now) self.now
+        requires search { IsSearching added.now assumed.now self.old }
+        requires false_ { Chooses (clause_lists added.now self.old.learnt.clauses.items assumed.now) self.old
             (Refuted index) }
-        ensures { IfOk result (λ derivation. IsDerivation
-            (clause_lists added.now self.now.learnt.clauses.items assumed.now)
+        ensures engine { IsEngine added.now self.new }
+        ensures trail { self.new.propagator.trail ≡ self.old.propagator.trail }
+        ensures links { self.new.propagator.links ≡ self.old.propagator.links }
+        ensures derived { IfOk result (λ derivation. IsDerivation
+            (clause_lists added.now self.new.learnt.clauses.items assumed.now)
             derivation.first derivation.rest.items []) }
     {
         let database = Database {
@@ -102,6 +105,7 @@ impl Engine {
             alloc,
             database,
             &self.propagator.trail,
+            &mut self.propagator.waiting,
             ClauseRef::Assumed(index),
         )
     }

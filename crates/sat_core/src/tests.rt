@@ -437,18 +437,33 @@ fn some_row_holds(alloc: Global, clauses: &[Clause]) -> Result<bool, NoMemory> {
     Ok(false)
 }
 
-// So many lists of 86 clauses over twenty variables, and how many of them have a model; nothing where
-// an answer isn't that of the table.
+// Whether a solver's answer under assumptions is that of the table.
+fn agrees(
+    alloc: Global,
+    solver: &mut Solver,
+    clauses: &[Clause],
+    assumptions: &[Lit],
+) -> Result<bool, NoMemory> {
+    let cnf = units_after(alloc, solver.vars(), clauses, assumptions)?;
+    let expected = some_row_holds(alloc, cnf.clauses())?;
+    Ok(answer(alloc, solver, clauses, assumptions)? == Some(expected))
+}
+
+// So many lists of 86 clauses over twenty variables, each under assumptions and without, and how many
+// of them have a model; nothing where an answer isn't that of the table.
 fn compare(alloc: Global, seed: &mut u64, count: usize) -> Result<Option<usize>, NoMemory> {
     let mut models: usize = 0;
     for _ in 0..count {
         let clauses = random_clauses(alloc, seed, 20, 86)?;
         let mut solver = solver_of(alloc, 20, &clauses)?;
-        let expected = some_row_holds(alloc, &clauses)?;
-        if answer(alloc, &mut solver, &clauses, &[])? != Some(expected) {
+        let assumptions = random_clause(alloc, seed, 20)?;
+        if !agrees(alloc, &mut solver, &clauses, assumptions.as_slice())? {
             return Ok(None);
         }
-        models = models.wrapping_add(usize::from(expected));
+        if !agrees(alloc, &mut solver, &clauses, &[])? {
+            return Ok(None);
+        }
+        models = models.wrapping_add(usize::from(some_row_holds(alloc, &clauses)?));
     }
     Ok(Some(models))
 }
@@ -474,9 +489,7 @@ fn agrees_under_assumptions(
     let mut solver = solver_of(alloc, 10, &clauses)?;
     for _ in 0..rounds {
         let assumptions = random_clause(alloc, seed, 10)?;
-        let cnf = units_after(alloc, 10, &clauses, assumptions.as_slice())?;
-        let expected = some_row_holds(alloc, cnf.clauses())?;
-        if answer(alloc, &mut solver, &clauses, assumptions.as_slice())? != Some(expected) {
+        if !agrees(alloc, &mut solver, &clauses, assumptions.as_slice())? {
             return Ok(false);
         }
         let more = random_clause(alloc, seed, 10)?;

@@ -168,6 +168,18 @@ impl Trail {
         }
     }
 
+    /// The last place whose step opens a level, 0 where none does.
+    pub fn last_opening(&self) -> usize {
+        let mut place = self.steps.len();
+        while place > 0 {
+            place -= 1;
+            if opens(self.steps[place]) {
+                return place;
+            }
+        }
+        0
+    }
+
     /// The first place from `from` on, and before `to`, whose step opens a level.
     pub fn opening(&self, from: usize, to: usize) -> Option<usize>
         requires { to ≤ length self.now.steps.items }

@@ -1,4 +1,4 @@
-use Rattle.std.proofs.Common.{◌≡◌, ◌<◌, [], List, length, subst, sym, get_or, Some}
+use Rattle.std.proofs.Common.{◌≡◌, ◌<◌, ◌∙◌, [], List, length, subst, sym, get_or, Some}
 use Rattle.std.proofs.lemmas.List.Elements.{Contains-get_or}
 use Rattle.cnf.specs.declared.lit.Lit.{Lit}
 use Rattle.clause_log.specs.Derivations.{SameLits}
@@ -13,14 +13,22 @@ use Rattle.sat_core.specs.Engines.{IsSearching, TakesStep, step_weight}
 use Rattle.sat_core.proofs.Chains.{same-refl}
 use Rattle.sat_core.proofs.Searching.{lesson_ends}
 use Rattle.sat_core.proofs.SearchLaws.{IsBack, IsLesson, IsLearning, with_propagator, back_is, lesson_returned, lesson_within, lesson_free}
-use Rattle.sat_core.proofs.SearchLaws.{lesson_forces, lesson_derived, lesson_goes_on, lesson_weight, learnt_engine, weight_positive}
+use Rattle.sat_core.proofs.SearchLaws.{emptied, lesson_forces, lesson_derived, lesson_goes_on, lesson_weight, learnt_engine, weight_positive}
 use Rattle.sat_core.proofs.engine.Engine.learn.Goals as goal
+
+pub returns-in_err-lits-clause-engine : goal.returns-in_err-lits-clause-engine
+returns-in_err-lits-clause-engine c =
+    emptied c.args.added.now c.args.self.now c.analyse.new.set c.requires.search.engine c.analyse.ensures.set c.analyse.ensures.vars c.analyse.ensures.empty
+
+pub returns-in-None-clause-engine : goal.returns-in-None-clause-engine
+returns-in-None-clause-engine c =
+    emptied c.args.added.now c.args.self.now c.analyse.new.set c.requires.search.engine c.analyse.ensures.set c.analyse.ensures.vars c.analyse.ensures.empty
 
 pub returns-in-None-clause-found : goal.returns-in-None-clause-found
 returns-in-None-clause-found c =
     let e = c.args.self.now in
     lesson_ends c.args.added.now e.learnt.clauses.items c.as_slice.result.now c.args.assumed.now e.propagator.trail.steps.items c.in_ok-lits.field-0
-    c.as_slice.ensures.value c.in-None.is c.in_ok-lits.ensures
+    c.as_slice.ensures.value c.in-None.is c.in_ok-lits.ensures.lesson
 
 pub returns-in-None-clause-weight : goal.returns-in-None-clause-weight
 returns-in-None-clause-weight c =
@@ -52,8 +60,8 @@ watch_order-requires-clause-forces c =
     subst (λ (x : List Lit). Forces steps (length steps) x jump.lit) (sym c.deref.ensures.value)
     (lesson_forces c.args.added.now c.args.assumed.now e (with_propagator e c.back.new.self) l jump
     (lesson_of c.args.added.now c.args.assumed.now e c.back.new.self c.as_slice.result.now l jump l.lits.items c.requires.search
-    (back_is e c.back.new.self jump.keep (b.trail, b.queue) (b.vars, b.queue_vars) (b.steps, b.waiting) (b.links, b.references))
-    c.as_slice.ensures.value c.in_ok-lits.ensures c.in-Some.is (same-refl l.lits.items)))
+    (back_is e c.back.new.self jump.keep (b.trail, b.queue) (b.vars, b.queue_vars ∙ c.analyse.ensures.vars) (b.steps, b.waiting) (b.links, b.references))
+    c.as_slice.ensures.value c.in_ok-lits.ensures.lesson c.in-Some.is (same-refl l.lits.items)))
 
 pub returns-in_err-order-in-Some-clause-engine : goal.returns-in_err-order-in-Some-clause-engine
 returns-in_err-order-in-Some-clause-engine c =
@@ -63,8 +71,8 @@ returns-in_err-order-in-Some-clause-engine c =
     let jump = c.in-Some.backjump in
     (lesson_returned c.args.added.now c.args.assumed.now e (with_propagator e c.back.new.self) l jump l.lits.items
     (lesson_of c.args.added.now c.args.assumed.now e c.back.new.self c.as_slice.result.now l jump l.lits.items c.requires.search
-    (back_is e c.back.new.self jump.keep (b.trail, b.queue) (b.vars, b.queue_vars) (b.steps, b.waiting) (b.links, b.references))
-    c.as_slice.ensures.value c.in_ok-lits.ensures c.in-Some.is (same-refl l.lits.items))).engine
+    (back_is e c.back.new.self jump.keep (b.trail, b.queue) (b.vars, b.queue_vars ∙ c.analyse.ensures.vars) (b.steps, b.waiting) (b.links, b.references))
+    c.as_slice.ensures.value c.in_ok-lits.ensures.lesson c.in-Some.is (same-refl l.lits.items))).engine
 
 -- the clause in its order
 lesson : (c : goal.After-keep-arg-in-Some-1)
@@ -81,8 +89,8 @@ lesson c =
     subst (λ (x : List Lit). SameLits x l.lits.items) (sym c.as_slice-in-Some.ensures.value)
     (subst (λ (x : List Lit). SameLits c.in_ok-order-in-Some.order.items x) c.deref.ensures.value c.in_ok-order-in-Some.ensures.same) in
     lesson_of c.args.added.now c.args.assumed.now e c.back.new.self c.as_slice.result.now l jump order c.requires.search
-    (back_is e c.back.new.self jump.keep (b.trail, b.queue) (b.vars, b.queue_vars) (b.steps, b.waiting) (b.links, b.references))
-    c.as_slice.ensures.value c.in_ok-lits.ensures c.in-Some.is same
+    (back_is e c.back.new.self jump.keep (b.trail, b.queue) (b.vars, b.queue_vars ∙ c.analyse.ensures.vars) (b.steps, b.waiting) (b.links, b.references))
+    c.as_slice.ensures.value c.in_ok-lits.ensures.lesson c.in-Some.is same
 
 pub keep-requires-clause-state : goal.keep-requires-clause-state
 keep-requires-clause-state c =
@@ -120,8 +128,8 @@ lesson_err c =
     subst (λ (x : List Lit). SameLits x l.lits.items) (sym c.as_slice-in-Some.ensures.value)
     (subst (λ (x : List Lit). SameLits c.in_ok-order-in-Some.order.items x) c.deref.ensures.value c.in_ok-order-in-Some.ensures.same) in
     lesson_of c.args.added.now c.args.assumed.now e c.back.new.self c.as_slice.result.now l jump order c.requires.search
-    (back_is e c.back.new.self jump.keep (b.trail, b.queue) (b.vars, b.queue_vars) (b.steps, b.waiting) (b.links, b.references))
-    c.as_slice.ensures.value c.in_ok-lits.ensures c.in-Some.is same
+    (back_is e c.back.new.self jump.keep (b.trail, b.queue) (b.vars, b.queue_vars ∙ c.analyse.ensures.vars) (b.steps, b.waiting) (b.links, b.references))
+    c.as_slice.ensures.value c.in_ok-lits.ensures.lesson c.in-Some.is same
 
 -- the clause is kept, or memory is wanted
 learning_err : (c : goal.After-drop-lits-in_err-reason-in-Some)
@@ -166,8 +174,8 @@ lesson_ok c =
     subst (λ (x : List Lit). SameLits x l.lits.items) (sym c.as_slice-in-Some.ensures.value)
     (subst (λ (x : List Lit). SameLits c.in_ok-order-in-Some.order.items x) c.deref.ensures.value c.in_ok-order-in-Some.ensures.same) in
     lesson_of c.args.added.now c.args.assumed.now e c.back.new.self c.as_slice.result.now l jump order c.requires.search
-    (back_is e c.back.new.self jump.keep (b.trail, b.queue) (b.vars, b.queue_vars) (b.steps, b.waiting) (b.links, b.references))
-    c.as_slice.ensures.value c.in_ok-lits.ensures c.in-Some.is same
+    (back_is e c.back.new.self jump.keep (b.trail, b.queue) (b.vars, b.queue_vars ∙ c.analyse.ensures.vars) (b.steps, b.waiting) (b.links, b.references))
+    c.as_slice.ensures.value c.in_ok-lits.ensures.lesson c.in-Some.is same
 
 -- the clause is kept, or memory is wanted
 learning_ok : (c : goal.After-drop-lits-2)
