@@ -16,7 +16,8 @@ use Rattle.spec_model.specs.declared.spec.Spec.{Spec}
 use Rattle.spec_model.specs.declared.sub.Sub.{Sub}
 use Rattle.spec_model.specs.declared.wire.Target.{Target}
 use Rattle.architecture.proofs.Listing.{each_at, each_more, all_of_each}
-use Rattle.replay.specs.FreePortNames.{port_prefix, port_text, port_kind, free_names}
+use Rattle.replay.specs.FreePortNames.{port_prefix, port_text, free_names}
+use Rattle.spec_model.specs.FreeTypes.{type_of_target}
 use Rattle.replay.specs.Laws.{IsFileName, HasFileValues, HasFileNames, BlocksReadBack}
 use Rattle.file_lassos.specs.Laws.{ResolvedHasFileNames, BlocksOfFilesReadBack}
 use Rattle.file_lassos.proofs.Once.{one_place, first_place}
@@ -91,7 +92,7 @@ module _ (made : Spec) (known : HasPlainNames made) (c : ComponentId) where
       subst (λ (o : Option OwnPort). IsFileName (port_prefix made c t.sub ++ option_map_or (λ (p : OwnPort). p.name) o [])) (sym port.1)
       (printed t.sub t.port.0 port.0 port.1)
 
-  free_values : (t : Target) → HasPort made c t → HasFileValues (port_kind made c t)
+  free_values : (t : Target) → HasPort made c t → HasFileValues (type_of_target made c t)
   free_values t port =
       subst (λ (o : Option OwnPort). HasFileValues (option_map_or (λ (p : OwnPort). p.kind) o kind.Bool)) (sym port.1)
       (plain_at t.sub t.port.0 port.0 port.1).1
@@ -124,9 +125,9 @@ module _ (made : Spec) (known : HasPlainNames made) (c : ComponentId) where
     port_names = All-map IsFileName (port_text made c) (free_targets made c)
         (all_of_each (λ (t : Target). IsFileName (port_text made c t)) (free_targets made c)
         (each_more (HasPort made c) (λ (t : Target). IsFileName (port_text made c t)) free_name (free_targets made c) (free_ports_there made c)));
-    port_values = All-map HasFileValues (port_kind made c) (free_targets made c)
-        (all_of_each (λ (t : Target). HasFileValues (port_kind made c t)) (free_targets made c)
-        (each_more (HasPort made c) (λ (t : Target). HasFileValues (port_kind made c t)) free_values (free_targets made c) (free_ports_there made c)));
+    port_values = All-map HasFileValues (type_of_target made c) (free_targets made c)
+        (all_of_each (λ (t : Target). HasFileValues (type_of_target made c t)) (free_targets made c)
+        (each_more (HasPort made c) (λ (t : Target). HasFileValues (type_of_target made c t)) free_values (free_targets made c) (free_ports_there made c)));
     distinct = names_differ;
   }
 

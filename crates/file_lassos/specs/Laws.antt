@@ -13,7 +13,8 @@ use Rattle.spec_model.specs.declared.spec.Component as model
 use Rattle.spec_model.specs.declared.spec.Spec.{Spec}
 use Rattle.architecture.specs.FirstFaults.{tree_site}
 use Rattle.architecture.specs.Standing.{Stands}
-use Rattle.replay.specs.FreePortNames.{free_names, free_kinds}
+use Rattle.replay.specs.FreePortNames.{free_names}
+use Rattle.spec_model.specs.FreeTypes.{free_types}
 use Rattle.replay.specs.LassoBlocks.{lasso_block}
 use Rattle.replay.specs.LassoFiles.{IsLasso, most_states}
 use Rattle.replay.specs.Laws.{HasFileNames, FitsPorts}
@@ -35,7 +36,7 @@ BlocksOfFilesReadBack =
     (bytes : List ℕ) (tokens : List Token) (all : List Component) (spec : Spec) → AreTokens bytes tokens
     → IsText (terminals_of bytes tokens) all → tree_site (length bytes) all ≡ None → Stands bytes all spec
     → (named : NamedLasso) (k : model.Component) → slice_get spec.components named.component.0 ≡ Some k
-    → FitsPorts (free_kinds spec named.component) named.lasso.states
+    → FitsPorts (free_types spec named.component) named.lasso.states
     → length named.lasso.states ≤ most_states
     → length (lasso_block k.name (free_names spec named.component) named.lasso) ≤ most_bytes
     → IsLasso spec (lasso_block k.name (free_names spec named.component) named.lasso) named

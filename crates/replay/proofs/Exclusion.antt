@@ -7,7 +7,8 @@ use Rattle.port_types.specs.declared.types.Value.{Value}
 use Rattle.oss_base.specs.declared.ids.ComponentId.{ComponentId}
 use Rattle.spec_model.specs.declared.spec.Spec.{Spec}
 use Rattle.replay.specs.declared.named.NamedLasso.{NamedLasso}
-use Rattle.replay.specs.FreePortNames.{free_names, free_kinds}
+use Rattle.replay.specs.FreePortNames.{free_names}
+use Rattle.spec_model.specs.FreeTypes.{free_types}
 use Rattle.replay.specs.TextLines.{NumberedLine, lines_that_count, missing_line}
 use Rattle.replay.specs.LassoFiles.{AreStateLines, BreaksAfterHeader, IsHeaderLine, IsBlock, LinesBreak, place_of_component}
 use Rattle.replay.specs.Laws.{LassosDontBreak}
@@ -55,10 +56,10 @@ blocks_dont_break spec missing (line ∷ rest) named number (h, states) (inl (fa
     fails (named.component, length named.lasso.states, named.lasso.loop_at, h)
 blocks_dont_break spec missing (line ∷ rest) named number (h, states) (inr (c, n, l, g, b)) =
     let same = headers_agree spec line.words named.component c (length named.lasso.states) named.lasso.loop_at n l h g in
-    let Along : ComponentId → ℕ → Type 0 = λ c n. BreaksAfterHeader (free_names spec c) (free_kinds spec c) missing n rest number in
+    let Along : ComponentId → ℕ → Type 0 = λ c n. BreaksAfterHeader (free_names spec c) (free_types spec c) missing n rest number in
     let back : Along named.component (length named.lasso.states) = subst (λ (n : ℕ). Along named.component n) (sym same.1)
     (subst (λ (c : ComponentId). Along c n) (sym same.0) b) in
-    states_dont_break (free_names spec named.component) (free_kinds spec named.component) missing named.lasso.states rest number states back
+    states_dont_break (free_names spec named.component) (free_types spec named.component) missing named.lasso.states rest number states back
 
 pub lassos_dont_break : LassosDontBreak
 lassos_dont_break spec bytes named number lasso (inl (long, e)) = let size = lasso.size in absurd (omega arith)

@@ -8,7 +8,8 @@ use Rattle.spec_model.specs.declared.port.OwnPort.{OwnPort}
 use Rattle.spec_model.specs.declared.port.FreePort.{FreePort}
 use Rattle.spec_model.specs.declared.wire.Target.{Target}
 use Rattle.spec_model.specs.Architecture.{AreFreePorts, IsFreePort, port_at}
-use Rattle.replay.specs.FreePortNames.{port_prefix, port_text, port_kind}
+use Rattle.replay.specs.FreePortNames.{port_prefix, port_text}
+use Rattle.spec_model.specs.FreeTypes.{type_of_target}
 use Rattle.replay.specs.Reading.{free_text}
 
 named_so : (o : Option OwnPort) (port : OwnPort) → o ≡ Some port → option_map_or (λ (p : OwnPort). p.name) o [] ≡ port.name
@@ -22,7 +23,7 @@ shown_text : (spec : Spec) (c : ComponentId) (t : Target) (free : FreePort) → 
 shown_text spec c t free h =
     λ j. port_prefix spec c (sym h.at j) ++ (sym h.port.2 ∙ sym (named_so (port_at spec c t) h.port.0 h.port.1)) j
 
-shown_kind : (spec : Spec) (c : ComponentId) (t : Target) (free : FreePort) → IsFreePort spec c t free → free.kind ≡ port_kind spec c t
+shown_kind : (spec : Spec) (c : ComponentId) (t : Target) (free : FreePort) → IsFreePort spec c t free → free.kind ≡ type_of_target spec c t
 shown_kind spec c t free h = sym h.port.3 ∙ sym (typed_so (port_at spec c t) h.port.0 h.port.1)
 
 pub shown_texts : (spec : Spec) (c : ComponentId) (ts : List Target) (free : List FreePort) → AreFreePorts spec c ts free
@@ -33,7 +34,7 @@ shown_texts spec c (t ∷ ts) [] h = absurd h
 shown_texts spec c (t ∷ ts) (f ∷ free) (h, more) = λ j. shown_text spec c t f h j ∷ shown_texts spec c ts free more j
 
 pub shown_kinds : (spec : Spec) (c : ComponentId) (ts : List Target) (free : List FreePort) → AreFreePorts spec c ts free
-    → map (λ (f : FreePort). f.kind) free ≡ map (port_kind spec c) ts
+    → map (λ (f : FreePort). f.kind) free ≡ map (type_of_target spec c) ts
 shown_kinds spec c [] [] h = refl
 shown_kinds spec c [] (f ∷ free) h = absurd h
 shown_kinds spec c (t ∷ ts) [] h = absurd h

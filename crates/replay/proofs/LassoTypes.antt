@@ -19,7 +19,8 @@ use Rattle.spec_model.specs.declared.port.OwnPort.{OwnPort}
 use Rattle.spec_model.specs.declared.spec.Spec.{Spec}
 use Rattle.spec_values.specs.FreeTypes.{HasFreeTypes}
 use Rattle.replay.specs.declared.named.NamedLasso.{NamedLasso}
-use Rattle.replay.specs.FreePortNames.{port_text, port_kind, free_names, free_kinds}
+use Rattle.replay.specs.FreePortNames.{port_text, free_names}
+use Rattle.spec_model.specs.FreeTypes.{type_of_target, free_types}
 use Rattle.replay.specs.TextLines.{NumberedLine, lines_that_count}
 use Rattle.replay.specs.LassoFiles.{assigned_place, Assigns, value_at_place, AreAssignments, IsStateLine, AreStateLines, IsBlock, IsLasso}
 
@@ -71,21 +72,21 @@ module _ (names : List (List ℕ)) (kinds : List PortType) where
   states_typed (values ∷ states) (line ∷ rest) h = (line_typed line.words values h.0, states_typed states rest h.1)
 
 block_typed : (spec : Spec) (lines : List NumberedLine) (named : NamedLasso) → IsBlock spec lines named
-    → AllByRecursion (IsTypedState (free_names spec named.component) (free_kinds spec named.component)) named.lasso.states
+    → AllByRecursion (IsTypedState (free_names spec named.component) (free_types spec named.component)) named.lasso.states
 block_typed spec [] named h = absurd h
 block_typed spec (line ∷ rest) named h =
-    states_typed (free_names spec named.component) (free_kinds spec named.component) named.lasso.states rest h.1
+    states_typed (free_names spec named.component) (free_types spec named.component) named.lasso.states rest h.1
 
 pub lasso_typed : (spec : Spec) (bytes : List ℕ) (named : NamedLasso) → IsLasso spec bytes named
-    → AllByRecursion (IsTypedState (free_names spec named.component) (free_kinds spec named.component)) named.lasso.states
+    → AllByRecursion (IsTypedState (free_names spec named.component) (free_types spec named.component)) named.lasso.states
 lasso_typed spec bytes named lasso = block_typed spec (lines_that_count bytes) named lasso.block
 
 pub free_typed : (spec : Spec) (c : ComponentId) (values : List Value)
-    → IsTypedState (free_names spec c) (free_kinds spec c) values → HasFreeTypes spec c (assignment values)
+    → IsTypedState (free_names spec c) (free_types spec c) values → HasFreeTypes spec c (assignment values)
 free_typed spec c values typed k t port here there =
     let within : k < length (free_names spec c) =
     subst (λ (n : ℕ). k < n) (sym (length-map (free_targets spec c) (port_text spec c))) (slice_get_within (free_targets spec c) k t here) in
-    let kind_is : get_or (free_kinds spec c) k kind.Bool ≡ port.kind =
-    get_or_from_slice_get (free_kinds spec c) k port.kind kind.Bool (slice_get-map (port_kind spec c) (free_targets spec c) k
-    ∙ (ap (option_map (port_kind spec c)) here ∙ ap (λ (o : Option OwnPort). Some (option_map_or (λ (p : OwnPort). p.kind) o kind.Bool)) there)) in
+    let kind_is : get_or (free_types spec c) k kind.Bool ≡ port.kind =
+    get_or_from_slice_get (free_types spec c) k port.kind kind.Bool (slice_get-map (type_of_target spec c) (free_targets spec c) k
+    ∙ (ap (option_map (type_of_target spec c)) here ∙ ap (λ (o : Option OwnPort). Some (option_map_or (λ (p : OwnPort). p.kind) o kind.Bool)) there)) in
     subst (λ (type : PortType). IsOfType type (assignment values k)) kind_is (typed.1 k within)

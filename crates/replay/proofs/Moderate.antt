@@ -33,7 +33,8 @@ use Rattle.spec_values.specs.SmallNumbers.{HoldsNumerals, HasShortTerms, SourceI
 use Rattle.connections.specs.LevelFormulas.{contracts_at}
 use Rattle.connections.specs.Substitution.{source_reading, reading_value, port_value}
 use Rattle.connections.specs.Substitution as readings
-use Rattle.replay.specs.FreePortNames.{port_kind, free_names, free_kinds}
+use Rattle.replay.specs.FreePortNames.{free_names}
+use Rattle.spec_model.specs.FreeTypes.{type_of_target, free_types}
 use Rattle.replay.specs.Judgements.{seen_values, seen_trace, IsModerateSource, AreModerateWires, IsModerateContract}
 use Rattle.replay.specs.Laws.{LassosAreModerate}
 use Rattle.replay.proofs.LassoTypes.{IsTypedState, lasso_typed, free_typed}
@@ -106,7 +107,7 @@ found_there {X = X} test (y ∷ xs) x e = by (test y) (found_there test xs x) e
 module _ (spec : Spec) (small : HasSmallNumbers spec) where
   -- the free ports hold numerals
 
-  pub kind_ends : (c : ComponentId) (t : Target) → HasNumeralEnds (port_kind spec c t)
+  pub kind_ends : (c : ComponentId) (t : Target) → HasNumeralEnds (type_of_target spec c t)
   kind_ends c t = by (port_at spec c t) (small.ports c t)
     where
       by : (o : Option OwnPort) → ((port : OwnPort) → o ≡ Some port → HasNumeralEnds port.kind)
@@ -114,12 +115,12 @@ module _ (spec : Spec) (small : HasSmallNumbers spec) where
       by None so = tt
       by (Some port) so = so port refl
 
-  free_numerals : (c : ComponentId) (values : List Value) → IsTypedState (free_names spec c) (free_kinds spec c) values
+  free_numerals : (c : ComponentId) (values : List Value) → IsTypedState (free_names spec c) (free_types spec c) values
       → HoldsNumerals (assignment values)
   free_numerals c values typed p =
       elim (cases_lt p (length (free_names spec c))) [
-        | inl l ↦ typed_numeral (get_or (free_kinds spec c) p kind.Bool) (assignment values p)
-            (kept_ends (port_kind spec c) (kind_ends c) (free_targets spec c) p) (typed.1 p l)
+        | inl l ↦ typed_numeral (get_or (free_types spec c) p kind.Bool) (assignment values p)
+            (kept_ends (type_of_target spec c) (kind_ends c) (free_targets spec c) p) (typed.1 p l)
         | inr l ↦
             let past : length values ≤ p = omega (arith, typed.0, l) in
             subst IsNumeral (sym (get_or_past values p (value.Bool false) past)) zero_is
@@ -141,7 +142,7 @@ module _ (spec : Spec) (small : HasSmallNumbers spec) where
             let fits = types c there.0 w there.1 in
             source_numeral free fits.0.kind w.source (small.ports c w.target fits.0 fits.1) (fits.2 free typed)
 
-    seen_numerals : (values : List Value) → IsTypedState (free_names spec c) (free_kinds spec c) values
+    seen_numerals : (values : List Value) → IsTypedState (free_names spec c) (free_types spec c) values
         → HoldsNumerals (assignment (seen_values spec c s values))
     seen_numerals values typed p =
         kept_numerals (port_value spec c (assignment values) s)
@@ -179,7 +180,7 @@ module _ (moderate : ShortIsModerate) (moderate_on : ShortIsModerateOn) where
   lassos_are_moderate spec bytes named small types lasso =
       let c : ComponentId = named.component in
       let states : List (List Value) = named.lasso.states in
-      let Typed : List Value → Type 0 = IsTypedState (free_names spec c) (free_kinds spec c) in
+      let Typed : List Value → Type 0 = IsTypedState (free_names spec c) (free_types spec c) in
       let typed = lasso_typed spec bytes named lasso in
       record {
         wires = All-from_recursion (AreModerateWires (wires_of spec c)) states

@@ -17,7 +17,8 @@ use Rattle.spec_values.specs.SmallNumbers.{HasNumeralEnds, HasSmallNumbers}
 use Rattle.typed_ltl.specs.declared.lasso.Lasso.{Lasso}
 use Rattle.first_lasso.proofs.FirstLassos.{same_lasso}
 use Rattle.replay.specs.declared.named.NamedLasso.{NamedLasso}
-use Rattle.replay.specs.FreePortNames.{port_kind, free_names, free_kinds}
+use Rattle.replay.specs.FreePortNames.{free_names}
+use Rattle.spec_model.specs.FreeTypes.{type_of_target, free_types}
 use Rattle.replay.specs.LassoBlocks.{value_text, assignment_text}
 use Rattle.replay.specs.LassoFiles.{Assigns, AreAssignments, IsStateLine, AreStateLines, IsBlock, assigned_place, value_at_place}
 use Rattle.replay.specs.Laws.{TextsMeanOneLasso}
@@ -140,10 +141,10 @@ block_once spec [] a b small h g = absurd h
 block_once spec (line ∷ rest) a b small h g =
     let c : ComponentId = a.component in
     let same = headers_agree spec line.words c b.component (length a.lasso.states) a.lasso.loop_at (length b.lasso.states) b.lasso.loop_at h.0 g.0 in
-    let there : AreStateLines (free_names spec c) (free_kinds spec c) b.lasso.states rest =
-    subst (λ (d : ComponentId). AreStateLines (free_names spec d) (free_kinds spec d) b.lasso.states rest) (sym same.0) g.1 in
-    let states : a.lasso.states ≡ b.lasso.states = states_once (free_names spec c) (free_kinds spec c) a.lasso.states b.lasso.states rest
-    (kept_ends (port_kind spec c) (kind_ends spec small c) (free_targets spec c)) h.1 there in
+    let there : AreStateLines (free_names spec c) (free_types spec c) b.lasso.states rest =
+    subst (λ (d : ComponentId). AreStateLines (free_names spec d) (free_types spec d) b.lasso.states rest) (sym same.0) g.1 in
+    let states : a.lasso.states ≡ b.lasso.states = states_once (free_names spec c) (free_types spec c) a.lasso.states b.lasso.states rest
+    (kept_ends (type_of_target spec c) (kind_ends spec small c) (free_targets spec c)) h.1 there in
     same_named a b same.0 (same_lasso a.lasso b.lasso states same.2)
 
 pub texts_mean_one_lasso : TextsMeanOneLasso

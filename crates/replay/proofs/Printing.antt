@@ -14,7 +14,8 @@ use Rattle.port_types.specs.declared.types.Value.TheVariants as value
 use Rattle.port_types.specs.Types.{IsOfType, IsSignedNumeral}
 use Rattle.typed_ltl.specs.declared.lasso.Lasso.{Lasso}
 use Rattle.spec_model.specs.Architecture.{free_targets}
-use Rattle.replay.specs.FreePortNames.{free_names, free_kinds, port_text, port_kind}
+use Rattle.replay.specs.FreePortNames.{free_names, port_text}
+use Rattle.spec_model.specs.FreeTypes.{free_types, type_of_target}
 use Rattle.replay.specs.LassoBlocks.{value_text, assignment_text, port_value_text, state_line, lasso_block}
 use Rattle.replay.specs.TextLines.{words_of_line, line_counts, counting_lines}
 use Rattle.replay.specs.LassoFiles.{IsStateLine, AreStateLines, IsHeaderLine, IsBlock}
@@ -247,7 +248,7 @@ blocks_read_back spec name named h fits most size = record {
   size = size;
   block =
       let names : List (List ℕ) = free_names spec named.component in
-      let kinds : List PortType = free_kinds spec named.component in
+      let kinds : List PortType = free_types spec named.component in
       let states : List (List Value) = named.lasso.states in
       let at : ℕ = named.lasso.loop_at in
       let range : at < length states = named.lasso.in_range in
@@ -257,7 +258,7 @@ blocks_read_back spec name named h fits most size = record {
       let typed = each_from_all (AllZip IsOfType kinds) states fits in
       let plain = each_entries names kinds states (each_from_all IsFileName names h.port_names) (each_from_all HasFileValues kinds h.port_values) typed in
       let same : length kinds ≡ length names =
-      length-map (free_targets spec named.component) (port_kind spec named.component)
+      length-map (free_targets spec named.component) (type_of_target spec named.component)
       ∙ sym (length-map (free_targets spec named.component) (port_text spec named.component)) in
       let words = header_words name (length states) at h.component_name (omega arith) (omega arith) in
       let counts : line_counts header ≡ true = counts_so header (codes "lasso") (name ∷ decimal (length states) ∷ decimal at ∷ []) refl words in

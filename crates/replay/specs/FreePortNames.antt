@@ -1,9 +1,6 @@
--- Free ports as they are printed, `p` for a port of the component itself and `s.p` for one of a subcomponent, and
--- their types.
+-- Free ports as they are printed, `p` for a port of the component itself and `s.p` for one of a subcomponent.
 use Rattle.std.specs.Prelude.{ℕ, List, [], ◌++◌, map, Option, Some, None, codes, slice_get}
 use Rattle.std.specs.Option.{option_map_or}
-use Rattle.port_types.specs.declared.types.PortType.{PortType}
-use Rattle.port_types.specs.declared.types.PortType.TheVariants as kind
 use Rattle.oss_base.specs.declared.ids.ComponentId.{ComponentId}
 use Rattle.oss_base.specs.declared.ids.SubId.{SubId}
 use Rattle.spec_model.specs.declared.spec.Spec.{Spec}
@@ -21,13 +18,6 @@ port_prefix spec c (Some s) =
 abbrev pub port_text : Spec → ComponentId → Target → List ℕ
 port_text spec c t = port_prefix spec c t.sub ++ option_map_or (λ (port : OwnPort). port.name) (port_at spec c t) []
 
-abbrev pub port_kind : Spec → ComponentId → Target → PortType
-port_kind spec c t = option_map_or (λ (port : OwnPort). port.kind) (port_at spec c t) kind.Bool
-
 -- the free ports of a component, in their order
 abbrev pub free_names : Spec → ComponentId → List (List ℕ)
 free_names spec c = map (port_text spec c) (free_targets spec c)
-
--- the types of the free ports, in their order
-abbrev pub free_kinds : Spec → ComponentId → List PortType
-free_kinds spec c = map (port_kind spec c) (free_targets spec c)

@@ -14,7 +14,8 @@ use Rattle.oss_base.specs.Limits.{most_bytes}
 use Rattle.spec_model.specs.declared.spec.Spec.{Spec}
 use Rattle.spec_model.specs.declared.spec.Component.{Component}
 use Rattle.replay.specs.declared.named.NamedLasso.{NamedLasso}
-use Rattle.replay.specs.FreePortNames.{free_names, free_kinds}
+use Rattle.replay.specs.FreePortNames.{free_names}
+use Rattle.spec_model.specs.FreeTypes.{free_types}
 use Rattle.replay.specs.LassoBlocks.{assignment_text}
 use Rattle.replay.specs.TextLines.{NumberedLine, lines_that_count, missing_line}
 
@@ -86,7 +87,7 @@ abbrev pub IsBlock : Spec → List NumberedLine → NamedLasso → Type 0
 IsBlock spec [] named = ⊥
 IsBlock spec (line ∷ rest) named = let c = named.component in
     IsHeaderLine spec line.words c (length named.lasso.states) named.lasso.loop_at
-    × AreStateLines (free_names spec c) (free_kinds spec c) named.lasso.states rest
+    × AreStateLines (free_names spec c) (free_types spec c) named.lasso.states rest
 
 -- the lasso that a text means
 pub record IsLasso (spec : Spec) (bytes : List ℕ) (named : NamedLasso) : Type 0 where
@@ -123,7 +124,7 @@ abbrev pub LinesBreak : Spec → ℕ → List NumberedLine → ℕ → Type 0
 LinesBreak spec missing [] number = number ≡ missing
 LinesBreak spec missing (line ∷ rest) number = ((HasHeaderLine spec line → ⊥) × (number ≡ line.number))
     ⊎ ((c : ComponentId) × (states : ℕ) × (loop_at : ℕ) × IsHeaderLine spec line.words c states loop_at
-    × BreaksAfterHeader (free_names spec c) (free_kinds spec c) missing states rest number)
+    × BreaksAfterHeader (free_names spec c) (free_types spec c) missing states rest number)
 
 -- The first line at which a text is no lasso, counted from 1; a text that is too long breaks at once.
 abbrev pub IsBreak : Spec → List ℕ → ℕ → Type 0

@@ -16,7 +16,8 @@ use Rattle.spec_values.specs.FreeTypes.{SourcesKeepTypes}
 use Rattle.spec_values.specs.SmallNumbers.{HasSmallNumbers}
 use Rattle.connections.specs.Laws.{ConnectionsHold}
 use Rattle.replay.specs.declared.named.NamedLasso.{NamedLasso}
-use Rattle.replay.specs.FreePortNames.{free_names, free_kinds}
+use Rattle.replay.specs.FreePortNames.{free_names}
+use Rattle.spec_model.specs.FreeTypes.{free_types}
 use Rattle.replay.specs.LassoBlocks.{lasso_block}
 use Rattle.replay.specs.TextLines.{divides_words}
 use Rattle.replay.specs.declared.judgement.Judgement.{Judgement}
@@ -53,7 +54,7 @@ pub record HasFileNames (spec : Spec) (name : List ℕ) (c : ComponentId) : Type
   pub component : place_of_component spec name ≡ Some c.0
   pub component_name : IsFileName name
   pub port_names : All IsFileName (free_names spec c)
-  pub port_values : All HasFileValues (free_kinds spec c)
+  pub port_values : All HasFileValues (free_types spec c)
   pub distinct : AllPairs (λ a b. a ≢ b) (free_names spec c)
 
 -- each state gives each free port a value of its type
@@ -63,7 +64,7 @@ FitsPorts kinds states = All (AllZip IsOfType kinds) states
 -- A lasso that is printed is read as itself, within the limits on states and bytes.
 abbrev pub BlocksReadBack : Type 0
 BlocksReadBack = (spec : Spec) (name : List ℕ) (named : NamedLasso) → HasFileNames spec name named.component
-    → FitsPorts (free_kinds spec named.component) named.lasso.states
+    → FitsPorts (free_types spec named.component) named.lasso.states
     → length named.lasso.states ≤ most_states
     → length (lasso_block name (free_names spec named.component) named.lasso) ≤ most_bytes
     → IsLasso spec (lasso_block name (free_names spec named.component) named.lasso) named

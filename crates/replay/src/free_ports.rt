@@ -3,7 +3,8 @@
 
 ghost use Rattle.std.specs.Prelude.{◌≡◌, ◌++◌, map, IfOk, OnOk, string_bytes};
 ghost use Rattle.spec_model.specs.declared.port.FreePort.{FreePort as Shown};
-ghost use Rattle.replay.specs.FreePortNames.{port_prefix, free_names as names_of_free, free_kinds};
+ghost use Rattle.replay.specs.FreePortNames.{port_prefix, free_names as names_of_free};
+ghost use Rattle.spec_model.specs.FreeTypes.{free_types};
 ghost use Rattle.replay.specs.Reading.{free_text, TellsPlaces};
 
 use crate::places::PlacesByName;
@@ -107,7 +108,7 @@ pub fn free_port_table(
     c: ComponentId,
 ) -> Result<FreePortTable, NoMemory>
     ensures names { IfOk result (λ t. t.names ≡ names_of_free spec.now c) }
-    ensures kinds { IfOk result (λ t. t.kinds ≡ free_kinds spec.now c) }
+    ensures kinds { IfOk result (λ t. t.kinds ≡ free_types spec.now c) }
     ensures places { IfOk result (λ t. TellsPlaces t.names t.places) }
 {
     let free = spec.free_ports(c)?;

@@ -6,3 +6,4 @@ pub mod Propositional
 pub mod Meanings
 pub mod Laws
 pub mod FreePlaces
+pub mod FreeTypes
