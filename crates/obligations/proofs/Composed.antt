@@ -1,6 +1,7 @@
-use Rattle.std.proofs.Common.{◌≡◌, ℕ, zero, suc, ◌<◌, ◌⊎◌, ◌↔◌, Bool, true, false, cond, List, [], ◌∷◌, ◌++◌, map, length, Option, Some, None, slice_get}
-use Rattle.std.proofs.Common.{eqb, refl, sym, ap, ◌∙◌, inl, inr, arith}
+use Rattle.std.proofs.Common.{◌≡◌, ℕ, zero, suc, ◌<◌, ◌⊎◌, ◌↔◌, Bool, true, false, cond, List, [], ◌∷◌, ◌++◌, map, length}
+use Rattle.std.proofs.Common.{Option, Some, None, option_map, slice_get, eqb, refl, sym, ap, subst, ◌∙◌, inl, inr, arith}
 use Rattle.std.proofs.lemmas.Bool.{false≢true, eqb-true, eq-eqb}
+use Rattle.std.proofs.lemmas.Option.{slice_get-map}
 use Rattle.std.specs.List.{filter}
 use Rattle.std.specs.Option.{option_map_or}
 use Rattle.oss_base.specs.declared.ids.ComponentId.{ComponentId}
@@ -18,8 +19,12 @@ use Rattle.spec_model.specs.Expressions.{ReadsBelow}
 use Rattle.spec_model.specs.Architecture.{IsWellFormed, FallsAlongSubs, ports_of, contracts_of, sub_component}
 use Rattle.connections.specs.Substitution.{readings, substituted}
 use Rattle.connections.specs.Laws.{SubstitutionKeepsTruth}
-use Rattle.obligations.specs.Levels.{Part, assumption, guarantee, normal_form, listed_assumption, listed_normal_form, is_of_another_sub, Question, MeetsAll}
-use Rattle.obligations.specs.Systems.{Path, IsInstance, around, IsSystemTrace, IsRefinedBy, IsUnrefined, IsReached, LeavesMeet}
+use Rattle.connections.specs.LevelFormulas.{what_it_asks, what_it_gives, asked_over_free, part_over_free}
+use Rattle.levels.specs.Levels.{part_normal_form}
+use Rattle.levels.specs.LevelQuestions.{with_normal_forms, is_of_other_sub}
+use Rattle.narrowed_questions.specs.NarrowedQuestions.{HaveTruths}
+use Rattle.obligations.specs.Systems.{Path, assumption, guarantee, normal_form, IsInstance, around, IsSystemTrace, IsRefinedBy, IsUnrefined, IsReached}
+use Rattle.obligations.specs.Systems.{LeavesMeet}
 use Rattle.obligations.specs.Laws.{ReachedLevelsAreValid, ContractsCompose}
 use Rattle.obligations.proofs.Locals.{connections_hold, typed_around}
 
@@ -124,40 +129,45 @@ reached_instance spec k [] c d r = r.0
 reached_instance spec k (s ∷ p) c d r = (r.0, reached_instance spec k p r.0 r.1 r.2, r.3)
 
 -- the normal form of a listed contract holds around, where it holds at the subcomponent
-listed_holds : (spec : Spec) (w : Path → Trace) → System spec w → (p : Path) (item : Item)
-    → IsInstance spec p item.component → (part : Part)
-    → (o : Option ComponentId) → sub_component spec item.component part.0 ≡ o
-    → ((b : ComponentId) → o ≡ Some b → Holds (w (part.0 ∷ p)) (normal_form (assumption spec b part.1) (guarantee spec b part.1)) 0)
-    → Holds (around spec w p item.component)
-    (normal_form (substituted (readings spec item.component (Some part.0)) (option_map_or (λ (b : ComponentId). assumption spec b part.1) o form.True))
-    (substituted (readings spec item.component (Some part.0)) (option_map_or (λ (b : ComponentId). guarantee spec b part.1) o form.True))) 0
-listed_holds spec w sys p item here part None e h = λ x. x
-listed_holds spec w sys p item here part (Some b) e h =
-    let a = sub_same spec w sys p item.component here part.0 b e (assumption spec b part.1) (assumption_reads spec sys.well b part.1) in
-    let g = sub_same spec w sys p item.component here part.0 b e (guarantee spec b part.1) (guarantee_reads spec sys.well b part.1) in
+listed_holds : (spec : Spec) (w : Path → Trace) → System spec w → (p : Path) (c : ComponentId) → IsInstance spec p c
+    → (s : SubId) (d : ContractId) (o : Option ComponentId) → sub_component spec c s ≡ o
+    → ((b : ComponentId) → o ≡ Some b → Holds (w (s ∷ p)) (normal_form spec b d) 0)
+    → Holds (around spec w p c)
+    (form.Implies (substituted (readings spec c (Some s)) (what_it_asks (slice_get (option_map_or (contracts_of spec) o []) d.0)))
+    (substituted (readings spec c (Some s)) (what_it_gives (slice_get (option_map_or (contracts_of spec) o []) d.0)))) 0
+listed_holds spec w sys p c here s d None e h = λ x. x
+listed_holds spec w sys p c here s d (Some b) e h =
+    let a = sub_same spec w sys p c here s b e (assumption spec b d) (assumption_reads spec sys.well b d) in
+    let g = sub_same spec w sys p c here s b e (guarantee spec b d) (guarantee_reads spec sys.well b d) in
     λ x. g.0 (h b refl (a.1 x))
 
-meets_append : (w : Trace) (q r : Question) → MeetsAll w q → MeetsAll w r → MeetsAll w (q ++ r)
-meets_append w [] r h k = k
-meets_append w (e ∷ q) r h k = (h.0, meets_append w q r h.1 k)
+-- questions are joined, and normal forms that hold are premises
 
-meets_map : (w : Trace) (f : Part → Ltl) (parts : List Part)
-    → ((n : ℕ) (part : Part) → slice_get parts n ≡ Some part → Holds w (f part) 0)
-    → MeetsAll w (map (λ (part : Part). (f part, true)) parts)
-meets_map w f [] h = tt
-meets_map w f (x ∷ xs) h = (h 0 x refl, meets_map w f xs (λ n part e. h (suc n) part e))
+truths_join : (w : Trace) (formulas more : List (Ltl × Bool)) → HaveTruths formulas w → HaveTruths more w
+    → HaveTruths (formulas ++ more) w
+truths_join w [] more h k = k
+truths_join w (e ∷ formulas) more h k = (h.0, truths_join w formulas more h.1 k)
 
-meets_filter_step : (w : Trace) (f : Part → Ltl) (x : Part) (xs : List Part) (b : Bool) → Holds w (f x) 0
-    → MeetsAll w (map (λ (part : Part). (f part, true)) xs)
-    → MeetsAll w (map (λ (part : Part). (f part, true)) (cond b (x ∷ xs) xs))
-meets_filter_step w f x xs true h k = (h, k)
-meets_filter_step w f x xs false h k = k
+-- each of the listed contracts has its normal form on the trace
+abbrev pub AllHold : Trace → (SubId × ContractId → SubId × Ltl × Ltl) → List (SubId × ContractId) → Type 0
+AllHold w told listed = (n : ℕ) (part : SubId × ContractId) → slice_get listed n ≡ Some part
+    → Holds w (part_normal_form (told part)) 0
 
-meets_filter : (w : Trace) (f : Part → Ltl) (p : Part → Bool) (parts : List Part)
-    → ((n : ℕ) (part : Part) → slice_get parts n ≡ Some part → Holds w (f part) 0)
-    → MeetsAll w (map (λ (part : Part). (f part, true)) (filter p parts))
-meets_filter w f p [] h = tt
-meets_filter w f p (x ∷ xs) h = meets_filter_step w f x (filter p xs) (p x) (h 0 x refl) (meets_filter w f p xs (λ n part e. h (suc n) part e))
+all_hold : (w : Trace) (told : SubId × ContractId → SubId × Ltl × Ltl) (listed : List (SubId × ContractId))
+    → AllHold w told listed → HaveTruths (with_normal_forms (map told listed)) w
+all_hold w told [] h = tt
+all_hold w told (x ∷ xs) h = (h 0 x refl, all_hold w told xs (λ n part e. h (suc n) part e))
+
+kept_hold : (w : Trace) (part : SubId × Ltl × Ltl) (rest : List (SubId × Ltl × Ltl)) (b : Bool) → Holds w (part_normal_form part) 0
+    → HaveTruths (with_normal_forms rest) w → HaveTruths (with_normal_forms (cond b (part ∷ rest) rest)) w
+kept_hold w part rest true h k = (h, k)
+kept_hold w part rest false h k = k
+
+some_hold : (w : Trace) (told : SubId × ContractId → SubId × Ltl × Ltl) (test : SubId × Ltl × Ltl → Bool) (listed : List (SubId × ContractId))
+    → AllHold w told listed → HaveTruths (with_normal_forms (filter test (map told listed))) w
+some_hold w told test [] h = tt
+some_hold w told test (x ∷ xs) h =
+    kept_hold w (told x) (filter test (map told xs)) (test (told x)) (h 0 x refl) (some_hold w told test xs (λ n part e. h (suc n) part e))
 
 -- the premises of composition
 pub record Premises (spec : Spec) (w : Path → Trace) (k : ContractId) : Type 0 where
@@ -167,18 +177,17 @@ pub record Premises (spec : Spec) (w : Path → Trace) (k : ContractId) : Type 0
 
 -- a reached contract has its normal form
 abbrev pub HasNormalForm : Spec → (Path → Trace) → Path → ComponentId → ContractId → Type 0
-HasNormalForm spec w p c d = Holds (w p) (normal_form (assumption spec c d) (guarantee spec c d)) 0
+HasNormalForm spec w p c d = Holds (w p) (normal_form spec c d) 0
 
 -- the listed contracts' normal forms hold around an instance
 parts_hold : (spec : Spec) (w : Path → Trace) (k : ContractId) → Premises spec w k
     → (p : Path) (c : ComponentId) (d : ContractId) (item : Item)
     → IsReached spec k p c d → IsRefinedBy spec c d item
     → ((s : SubId) (b : ComponentId) (e : ContractId) → sub_component spec c s ≡ Some b → IsReached spec k (s ∷ p) b e → HasNormalForm spec w (s ∷ p) b e)
-    → (n : ℕ) (part : Part) → slice_get item.parts n ≡ Some part
-    → Holds (around spec w p item.component) (listed_normal_form spec item part) 0
+    → AllHold (around spec w p item.component) (part_over_free spec item.component) item.parts
 parts_hold spec w k pre p c d item r by h n part e =
     let here : IsInstance spec p item.component = rw by.component (reached_instance spec k p c d r) in
-    listed_holds spec w pre.system p item here part (sub_component spec item.component part.0) refl
+    listed_holds spec w pre.system p item.component here part.0 part.1 (sub_component spec item.component part.0) refl
     (λ b f.
     let g : sub_component spec c part.0 ≡ Some b = rw by.component at f in
     h part.0 b part.1 g (c, d, r, g, (item, by, n, e)))
@@ -198,9 +207,12 @@ step_up spec w k pre p c d item r by h =
     (guarantee_reads spec sys.well item.component item.contract) in
     let valid = pre.valid p c d r item by in
     λ x. sys.stable (w p) (guarantee spec item.component item.contract) 0 (λ no.
-    valid.entailed (around spec w p item.component) (typed_around spec w p item.component here sys.trace)
-    (meets_append _ _ _ (meets_map _ (listed_normal_form spec item) item.parts (parts_hold spec w k pre p c d item r by h))
-    (a.0 x, ((λ y. no (g.1 y)), tt))))
+    valid.entailed (
+      around spec w p item.component,
+      typed_around spec w p item.component here sys.trace,
+      truths_join _ _ _ (all_hold _ (part_over_free spec item.component) item.parts (parts_hold spec w k pre p c d item r by h))
+          (a.0 x, ((λ y. no (g.1 y)), tt)),
+    ))
 
 -- every reached contract has its normal form, by the rank of its component
 normal_forms : (spec : Spec) (w : Path → Trace) (k : ContractId) → Premises spec w k → (rank : ℕ → ℕ)
@@ -221,6 +233,16 @@ record IsListedHere (spec : Spec) (item : Item) (s : SubId) (b : ComponentId) (e
   place : ℕ
   at : slice_get item.parts place ≡ Some (s, e)
 
+told_at : {X Y : Type 0} (told : X → Y) (xs : List X) (n : ℕ) (x : X) → slice_get xs n ≡ Some x → slice_get (map told xs) n ≡ Some (told x)
+told_at told xs n x e = slice_get-map told xs n ∙ ap (option_map told) e
+
+-- what a listed contract asks is what it asks in its own component
+part_asks : (spec : Spec) (v : Trace) (c : ComponentId) (s : SubId) (b : ComponentId) (e : ContractId) → sub_component spec c s ≡ Some b
+    → Holds v (asked_over_free spec c (Some s) e) 0 → Holds v (substituted (readings spec c (Some s)) (assumption spec b e)) 0
+part_asks spec v c s b e is h =
+    subst (λ (o : Option ComponentId).
+    Holds v (substituted (readings spec c (Some s)) (what_it_asks (slice_get (option_map_or (contracts_of spec) o []) e.0))) 0) is h
+
 -- one step down: the assumption of a listed contract
 step_down : (spec : Spec) (w : Path → Trace) (k : ContractId) → Premises spec w k
     → ((p : Path) (c : ComponentId) (d : ContractId) → IsReached spec k p c d → HasNormalForm spec w p c d)
@@ -236,16 +258,18 @@ step_down spec w k pre up p c d item r by x s b e listed =
     let g = sub_same spec w sys p item.component here s b listed.component (assumption spec b e) (assumption_reads spec sys.well b e) in
     let valid = pre.valid p c d r item by in
     sys.stable (w (s ∷ p)) (assumption spec b e) 0 (λ no.
-    valid.assumed listed.place (s, e) listed.at (around spec w p item.component) (typed_around spec w p item.component here sys.trace) (
-      a.0 x,
-      meets_append _ _ _
-          (meets_filter _ (listed_normal_form spec item) (is_of_another_sub (s, e)) item.parts
-          (parts_hold spec w k pre p c d item r by (λ s b e f below. up (s ∷ p) b e below)))
-          ((λ y. no (g.1 (part_same y))), tt),
-    )) where
-      part_same : Holds (around spec w p item.component) (listed_assumption spec item (s, e)) 0
-          → Holds (around spec w p item.component) (substituted (readings spec item.component (Some s)) (assumption spec b e)) 0
-      part_same y = rw listed.component at y
+    valid.assumed listed.place (part_over_free spec item.component (s, e))
+    (told_at (part_over_free spec item.component) item.parts listed.place (s, e) listed.at) (
+      around spec w p item.component,
+      typed_around spec w p item.component here sys.trace,
+      (
+        a.0 x,
+        truths_join _ _ _
+            (some_hold _ (part_over_free spec item.component) (is_of_other_sub s) item.parts
+            (parts_hold spec w k pre p c d item r by (λ s b e f below. up (s ∷ p) b e below)))
+            ((λ y. no (g.1 (part_asks spec _ item.component s b e listed.component y))), tt),
+      ),
+    ))
 
 assumptions : (spec : Spec) (w : Path → Trace) (k : ContractId) → Premises spec w k
     → ((p : Path) (c : ComponentId) (d : ContractId) → IsReached spec k p c d → HasNormalForm spec w p c d)

@@ -3,17 +3,21 @@
 use Rattle.std.specs.Prelude.{◌≡◌, ℕ, Some, slice_get}
 use Rattle.oss_base.specs.declared.ids.ComponentId.{ComponentId}
 use Rattle.oss_base.specs.declared.ids.ContractId.{ContractId}
+use Rattle.oss_base.specs.declared.ids.SubId.{SubId}
+use Rattle.typed_ltl.specs.Formulas.{Ltl}
 use Rattle.spec_model.specs.declared.spec.Spec.{Spec}
 use Rattle.spec_model.specs.declared.item.Item.{Item}
 use Rattle.spec_model.specs.Architecture.{IsWellFormed}
-use Rattle.obligations.specs.Levels.{Part, IsValid, entails, assumes}
+use Rattle.levels.specs.Levels.{level_meaning}
+use Rattle.levels.specs.LevelQuestions.{entailment, met_assumption}
 use Rattle.obligations.specs.Systems.{Path, IsRefinedBy, IsReached, IsSafeFor}
+use Rattle.obligations.specs.Validity.{IsValid}
 
--- every question of a level is valid
+-- every question of a level is valid: its entailment, and the assumption of each listed contract
 pub record IsValidLevel (spec : Spec) (item : Item) : Type 0 where
-  pub entailed : IsValid spec item.component (entails spec item)
-  pub assumed : (n : ℕ) (part : Part) → slice_get item.parts n ≡ Some part
-      → IsValid spec item.component (assumes spec item part)
+  pub entailed : IsValid spec item.component (entailment (level_meaning spec item))
+  pub assumed : (j : ℕ) (part : SubId × Ltl × Ltl) → slice_get (level_meaning spec item).parts j ≡ Some part
+      → IsValid spec item.component (met_assumption (level_meaning spec item) part)
 
 -- every question of the levels of reached contracts is valid
 abbrev pub ReachedLevelsAreValid : Spec → ContractId → Type 0

@@ -1,8 +1,4 @@
 pub mod Laws
-pub mod Levels
 pub mod Names
-pub mod Safety
 pub mod Systems
-pub mod Tables
-pub mod Valuations
-pub mod Verdicts
+pub mod Validity

@@ -12,7 +12,6 @@ use Rattle.spec_model.specs.declared.item.Item.{Item}
 use Rattle.spec_model.specs.Architecture.{contracts_of, subs_of, sub_component}
 use Rattle.obligations.specs.declared.name.ObligationName.{ObligationName}
 use Rattle.obligations.specs.declared.name.ObligationName.TheVariants as obligation
-use Rattle.obligations.specs.Levels.{Part}
 
 abbrev pub component_name : Spec → ComponentId → List ℕ
 component_name spec c = option_map_or (λ (k : Component). k.name) (slice_get spec.components c.0) []
@@ -23,7 +22,7 @@ contract_name spec c d = option_map_or (λ (k : Contract). k.name) (slice_get (c
 abbrev pub sub_name : Spec → ComponentId → SubId → List ℕ
 sub_name spec c s = option_map_or (λ (sub : Sub). sub.name) (slice_get (subs_of spec c) s.0) []
 
-abbrev pub part_name : Spec → ComponentId → Part → List ℕ
+abbrev pub part_name : Spec → ComponentId → SubId × ContractId → List ℕ
 part_name spec c part = (sub_name spec c part.0 ++ codes ".")
     ++ option_map_or (λ (b : ComponentId). contract_name spec b part.1) (sub_component spec c part.0) []
 

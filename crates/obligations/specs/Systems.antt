@@ -1,11 +1,14 @@
--- Instances, and traces of the whole system. All components and connections step together: a system
--- trace gives every instance a valuation at every position.
+-- Instances, and traces of the whole system (Cimatti and Tonetta, Contracts-refinement proof system for component-based
+-- embedded systems, 2015: the traces of a composite implementation). All components and connections step together: a
+-- system trace gives every instance a valuation at every position.
 use Rattle.std.specs.Prelude.{◌≡◌, ℕ, false, List, [], ◌∷◌, Option, Some, None, slice_get}
 use Rattle.std.specs.Option.{option_map_or}
 use Rattle.oss_base.specs.declared.ids.ComponentId.{ComponentId}
 use Rattle.oss_base.specs.declared.ids.ContractId.{ContractId}
 use Rattle.oss_base.specs.declared.ids.SubId.{SubId}
 use Rattle.port_types.specs.declared.types.Value.TheVariants as value
+use Rattle.typed_ltl.specs.Formulas.{Ltl}
+use Rattle.typed_ltl.specs.Formulas as form
 use Rattle.typed_ltl.specs.Traces.{Trace}
 use Rattle.typed_ltl.specs.Truth.{Holds}
 use Rattle.spec_model.specs.declared.spec.Spec.{Spec}
@@ -16,7 +19,18 @@ use Rattle.spec_model.specs.declared.wire.Target.{Target}
 use Rattle.port_types.specs.Types.{IsOfType}
 use Rattle.spec_model.specs.Architecture.{ports_of, wires_of, sub_component, free_targets}
 use Rattle.connections.specs.Substitution.{reading_value, source_reading}
-use Rattle.obligations.specs.Levels.{assumption, guarantee, normal_form}
+use Rattle.connections.specs.LevelFormulas.{contract_at, what_it_asks, what_it_gives}
+
+-- What a contract of a component asks and gives, over the ports of that component, and what an implementation of it
+-- meets: where the one holds, so does the other.
+abbrev pub assumption : Spec → ComponentId → ContractId → Ltl
+assumption spec c d = what_it_asks (contract_at spec c None d)
+
+abbrev pub guarantee : Spec → ComponentId → ContractId → Ltl
+guarantee spec c d = what_it_gives (contract_at spec c None d)
+
+abbrev pub normal_form : Spec → ComponentId → ContractId → Ltl
+normal_form spec c d = form.Implies (assumption spec c d) (guarantee spec c d)
 
 -- An instance: the subcomponents on the way to it from the system, the last one first.
 abbrev pub Path : Type 0
@@ -71,7 +85,7 @@ IsReached spec k (s ∷ p) b e = (c : ComponentId) × (d : ContractId) × IsReac
 -- Every reached contract that is not refined has its normal form at position 0.
 abbrev pub LeavesMeet : Spec → (Path → Trace) → ContractId → Type 0
 LeavesMeet spec w k = (p : Path) (c : ComponentId) (d : ContractId) → IsReached spec k p c d → IsUnrefined spec c d
-    → Holds (w p) (normal_form (assumption spec c d) (guarantee spec c d)) 0
+    → Holds (w p) (normal_form spec c d) 0
 
 -- The guarantee of the system's contract holds at position 0, and so does every reached assumption.
 pub record IsSystemSafe (spec : Spec) (w : Path → Trace) (k : ContractId) : Type 0 where

@@ -1,13 +1,12 @@
-//! Levels, their questions, and what follows for the whole system where the questions are valid.
+//! Obligations: their names, instances and traces of the whole system, and what follows for these where every question
+//! of the reached levels is valid. The main functions are the law `contracts_compose` and `ObligationName::text`; the
+//! crate may touch the allocator and nothing else.
 #![tactic(auto)]
 
-mod deciding;
 mod laws;
 mod name;
-mod table;
 #[cfg(test)]
 mod tests;
 
-pub use deciding::verdicts;
-pub use laws::{contracts_compose, first_is_least, levels_are_decided, proved_systems_are_safe};
+pub use laws::contracts_compose;
 pub use name::{ObligationName, component_name, contract_name, sub_name};

@@ -1,10 +1,11 @@
-pub mod Built
-pub mod BuiltTables
 pub mod Checked
-pub mod Decided
 pub mod Excluded
+pub mod GivenWords
+pub mod Numbers
+pub mod Ranges
 pub mod Reading
 pub mod Replayed
 pub mod Running
 pub mod Saying
 pub mod Telling
+pub mod Valid

@@ -1,10 +1,10 @@
 -- What reading answers, as facts on the bytes.
-use Rattle.std.proofs.Common.{false, ◌≡◌, ℕ, ◌<◌, ◌≤◌, List, length, Option, Some, None, Result, Ok, Err, IfOk, IfErr, IfSome, subst}
+use Rattle.std.proofs.Common.{◌≡◌, ℕ, ◌<◌, ◌≤◌, List, length, Option, Some, None, Result, Ok, Err, IfOk, IfErr, OnOk, IfSome, subst}
 use Rattle.std.proofs.Math.Logic.{inl, inr}
 use Rattle.oss_base.specs.Faults.{IfFault}
 use Rattle.oss_base.specs.Limits.{most_bytes}
 use Rattle.oss_base.specs.declared.fault.Fault.{Fault}
-use Rattle.oss_base.specs.declared.fault.FaultKind.TheVariants.{F0, F1}
+use Rattle.oss_base.specs.declared.fault.FaultKind.TheVariants.{F1}
 use Rattle.oss_base.specs.declared.fault.Stop.{Stop}
 use Rattle.oss_base.specs.declared.fault.Stop.TheVariants as stops
 use Rattle.oss_lexer.specs.Laws.{OneTokenList}
@@ -18,10 +18,12 @@ use Rattle.oss_syntax.specs.Trees.{Component, component_trees}
 use Rattle.architecture.specs.FirstFaults.{tree_site, Refuses}
 use Rattle.architecture.specs.Standing.{Stands}
 use Rattle.spec_model.specs.declared.spec.Spec.{Spec}
-use Rattle.ocra_tool.specs.Files.{IsTreeOf, IsSoleTreeOf, IsSpecOf, IsFaultOf, IsNotBuilt, at_start}
-use Rattle.ocra_tool.specs.NotBuilt.{is_built}
+use Rattle.architecture.specs.Laws.{StandsIsUnique}
+use Rattle.levels.specs.LevelFaults.{first_level_fault}
+use Rattle.ocra_tool.specs.Files.{IsTreeOf, IsSoleTreeOf, IsSpecOf, IsSoleSpecification, IsFaultOf, at_start}
 use Rattle.ocra_tool.specs.Tasks.{IsFaultFor}
-use Rattle.ocra_tool.specs.Words.{Task, CheckFile, ReplayLasso}
+use Rattle.ocra_tool.specs.Words.{Task}
+use Rattle.ocra_tool.proofs.Excluded.{sole_spec}
 
 same_tree : OneTokenList → (bytes : List ℕ) (tokens : List Token) (all : List Component) → AreTokens bytes tokens
     → ((others : List Component) → IsText (terminals_of bytes tokens) others → others ≡ all)
@@ -40,15 +42,15 @@ sole_tree one bytes tokens (Ok trees) short cut text only = record {
 }
 sole_tree one bytes tokens (Err stop) short cut text only = tt
 
-pub syntax_fault : (bytes : List ℕ) (tokens : List Token) (r : Result (List TreeComponent) Stop)
+pub syntax_fault : (width : ℕ) (bytes : List ℕ) (tokens : List Token) (r : Result (List TreeComponent) Stop)
     → length bytes ≤ most_bytes → AreTokens bytes tokens
     → IfFault r (λ _. (components : List Component) → IsText (terminals_of bytes tokens) components → ⊥)
     → IfFault r (λ fault. IsSyntaxKind fault.kind)
-    → IfFault r (IsFaultOf bytes)
-syntax_fault bytes tokens (Ok trees) short cut none kind = tt
-syntax_fault bytes tokens (Err (stops.Fault fault)) short cut none kind =
+    → IfFault r (IsFaultOf width bytes)
+syntax_fault width bytes tokens (Ok trees) short cut none kind = tt
+syntax_fault width bytes tokens (Err (stops.Fault fault)) short cut none kind =
     inr (inr (inl (record { short = short; tokens = tokens; cut = cut; no_text = none; kind = kind })))
-syntax_fault bytes tokens (Err stops.NoMemory) short cut none kind = tt
+syntax_fault width bytes tokens (Err stops.NoMemory) short cut none kind = tt
 
 -- What is answered on a tree.
 
@@ -57,26 +59,31 @@ pub spec_of : (bytes : List ℕ) (all : List Component) (r : Result Spec Stop)
 spec_of bytes all (Ok s) is = record { faultless = is.0; stands = is.1 }
 spec_of bytes all (Err stop) is = tt
 
-pub first_fault : (bytes : List ℕ) (all : List Component) (r : Result Spec Stop) → IsSoleTreeOf bytes all
-    → IfErr r (Refuses bytes all) → IfFault r (IsFaultOf bytes)
-first_fault bytes all (Ok s) sole refuses = tt
-first_fault bytes all (Err (stops.Fault fault)) sole refuses =
-    inr (inr (inr (record { components = all; tree = sole; first = refuses })))
-first_fault bytes all (Err stops.NoMemory) sole refuses = tt
+pub first_fault : (width : ℕ) (bytes : List ℕ) (all : List Component) (r : Result Spec Stop) → IsSoleTreeOf bytes all
+    → IfErr r (Refuses bytes all) → IfFault r (IsFaultOf width bytes)
+first_fault width bytes all (Ok s) sole refuses = tt
+first_fault width bytes all (Err (stops.Fault fault)) sole refuses =
+    inr (inr (inr (inl (record { components = all; tree = sole; first = refuses }))))
+first_fault width bytes all (Err stops.NoMemory) sole refuses = tt
 
--- What is answered on a specification that isn't decided.
-pub not_built : (bytes : List ℕ) (all : List Component) (s : Spec) (fault : Fault) → IsSoleTreeOf bytes all → IsSpecOf bytes all s
-    → is_built s all ≡ false → fault ≡ at_start F0 → IsNotBuilt bytes fault
-not_built bytes all s fault sole of unbuilt told = record { components = all; spec = s; tree = sole; of = of; unbuilt = unbuilt; is = told }
+-- What is answered on levels.
 
--- A fault of the bytes is one for every task.
-pub fault_for : (task : Task) (bytes : List ℕ) (fault : Fault) → IsFaultOf bytes fault → IsFaultFor task bytes fault
-fault_for (CheckFile file) bytes fault f = inl f
-fault_for (ReplayLasso file lasso) bytes fault f = f
+pub level_spec : {T : Type 0} → StandsIsUnique → (width : ℕ) (bytes : List ℕ) (all : List Component) (s : Spec) (r : Result T Stop)
+    → IsSoleTreeOf bytes all → IsSpecOf bytes all s → OnOk r (first_level_fault width s ≡ None) → OnOk r (IsSoleSpecification width bytes s)
+level_spec unique width bytes all s (Ok levels) sole of clear = sole_spec unique width bytes all s sole of clear
+level_spec unique width bytes all s (Err stop) sole of clear = tt
+
+pub level_fault : {T : Type 0} (width : ℕ) (bytes : List ℕ) (all : List Component) (s : Spec) (r : Result T Stop)
+    → IsSoleTreeOf bytes all → IsSpecOf bytes all s → IfFault r (λ fault. first_level_fault width s ≡ Some fault)
+    → IfFault r (IsFaultOf width bytes)
+level_fault width bytes all s (Ok levels) sole of first = tt
+level_fault width bytes all s (Err (stops.Fault fault)) sole of first =
+    inr (inr (inr (inr (record { components = all; spec = s; tree = sole; of = of; first = first }))))
+level_fault width bytes all s (Err stops.NoMemory) sole of first = tt
 
 -- What is answered on bytes that are too many.
 pub size_fault : (task : Task) (told : Option (List ℕ)) (fault : Fault) → fault ≡ at_start F1
     → IfSome told (λ held. most_bytes < length held)
     → IfSome told (λ bytes. IsFaultFor task bytes fault)
 size_fault task None fault is long = tt
-size_fault task (Some bytes) fault is long = fault_for task bytes fault (inl (record { long = long; is = is }))
+size_fault task (Some bytes) fault is long = inl (record { long = long; is = is })

@@ -17,10 +17,10 @@ use Rattle.ocra_tool.specs.Outcomes.{Means}
 use Rattle.ocra_tool.specs.Laws.{ReplaysHaveOneText}
 use Rattle.ocra_tool.specs.Replays.{IsReplayTextOf, IsReplayOf}
 use Rattle.ocra_tool.specs.Tasks.{LassoBreak, second_fault_line, IsSecondFaultFor}
-use Rattle.ocra_tool.specs.Words.{ReplayLasso}
+use Rattle.ocra_tool.specs.Words.{ReplayLasso, default_width}
 
 pub record Judged (bytes second : List ℕ) (spec : Spec) (named : NamedLasso) (judgements : List Judgement) : Type 0 where
-  pub sole : IsSoleSpecification bytes spec
+  pub sole : IsSoleSpecification default_width bytes spec
   pub lasso : IsLasso spec second named
   pub judged : AreJudgements spec named judgements
 
@@ -71,14 +71,14 @@ told_once spec second text other small one_lasso unique t o =
     let judgements : o.judgements ≡ t.judgements = unique spec t.named o.judgements t.judgements moved t.judged in
     o.is ∙ (ap (judgements_text spec) judgements ∙ sym t.is)
 
-broken : (file lasso bytes : List ℕ) (spec : Spec) (line : ℕ) (other : Option (List ℕ)) → IsSoleSpecification bytes spec
+broken : (file lasso bytes : List ℕ) (spec : Spec) (line : ℕ) (other : Option (List ℕ)) → IsSoleSpecification default_width bytes spec
     → IfSome other (λ second. IsBreak spec second line)
     → IfSome other (λ second. IsSecondFaultFor (ReplayLasso file lasso) bytes second (LassoBreak line))
 broken file lasso bytes spec line None sole break = tt
 broken file lasso bytes spec line (Some second) sole break = (spec, sole, break)
 
 pub lasso_refused : (file lasso bytes text : List ℕ) (spec : Spec) (line : ℕ) (other : Option (List ℕ)) (before now : ℕ)
-    → IsSoleSpecification bytes spec → text ≡ second_fault_line lasso (LassoBreak line)
+    → IsSoleSpecification default_width bytes spec → text ≡ second_fault_line lasso (LassoBreak line)
     → IfSome other (λ second. IsBreak spec second line)
     → Means (Some bytes) other before now (ReplayLasso file lasso) (outcome.SecondRefused text)
 lasso_refused file lasso bytes text spec line other before now sole is break =

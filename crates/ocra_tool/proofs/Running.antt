@@ -4,22 +4,22 @@ use Rattle.spec_model.specs.declared.spec.Spec.{Spec}
 use Rattle.oss_base.specs.declared.fault.Fault.{Fault}
 use Rattle.obligations.specs.Systems.{IsSafe}
 use Rattle.ocra_tool.specs.Answers.{OfFile, OfFiles, IfHeld}
-use Rattle.ocra_tool.specs.Files.{IsSystemOf}
+use Rattle.ocra_tool.specs.Files.{IsSpecification}
 use Rattle.ocra_tool.specs.Laws.{SoundHasNoFault, SoundHasNoSecondFault}
 use Rattle.ocra_tool.specs.Tasks.{SecondFault, LassoBreak, first_file, second_file, second_bytes, IfBoth, IsSound, IsFaultFor, HasFaultFor, AreSound}
 use Rattle.ocra_tool.specs.Tasks.{IsSecondFaultFor, HasSecondFaultFor, IsAnswerTo}
 use Rattle.ocra_tool.specs.Words.{Task, CheckFile, ReplayLasso}
 
 first_sound : (t : Task) (b s : List ℕ) → AreSound t b s → IsSound t b
-first_sound (CheckFile file) b s a = a
+first_sound (CheckFile file depth width) b s a = a
 first_sound (ReplayLasso file lasso) b s a = (a.0, a.1)
 
 answer_sound : (t : Task) (b s text : List ℕ) (ended : ℕ) → IsAnswerTo t b s text ended → AreSound t b s
-answer_sound (CheckFile file) b s text ended a = (a.report.spec, a.report.system)
+answer_sound (CheckFile file depth width) b s text ended a = (a.report.spec, a.report.described)
 answer_sound (ReplayLasso file lasso) b s text ended a = (a.0.replay.spec, a.0.sole.is, a.0.replay.named, a.0.replay.lasso)
 
 second_fault_sound : (t : Task) (b s : List ℕ) (fault : SecondFault) → IsSecondFaultFor t b s fault → IsSound t b
-second_fault_sound (CheckFile file) b s fault f = absurd f
+second_fault_sound (CheckFile file depth width) b s fault f = absurd f
 second_fault_sound (ReplayLasso file lasso) b s (LassoBreak line) f = (f.0, f.1.is)
 
 of_first : {P : List ℕ → Type 0} {Q : List ℕ → List ℕ → Type 0} (told other : Option (List ℕ)) → ((b s : List ℕ) → P b → Q b s) → IfSome told P
@@ -78,6 +78,18 @@ second_not_sound law task t is held fault has R =
     subst (λ o. OfFiles o held (λ u b s. AreSound u b s → R u)) (sym is)
     (of_both (held (first_file t)) (second_bytes (second_file t) held) (λ b s f a. absurd (law t b s fault a f)) has)
 
+-- The second one is refused, whatever its fault.
+
+refused_over : (t : Task) (told other : Option (List ℕ)) (R : Type 0) → R → IfBoth told other (λ b s. HasSecondFaultFor t b s → R)
+refused_over t None other R r = tt
+refused_over t (Some b) None R r = tt
+refused_over t (Some b) (Some s) R r = λ f. r
+
+pub second_refused : (task : Option Task) (held : List ℕ → Option (List ℕ)) (R : Type 0) → R
+    → OfFiles task held (λ u b s. HasSecondFaultFor u b s → R)
+second_refused None held R r = tt
+second_refused (Some t) held R r = refused_over t (held (first_file t)) (second_bytes (second_file t) held) R r
+
 -- What was answered, in part or whole.
 pub front_of_answer : (task : Option Task) (t : Task) → task ≡ Some t → (held : List ℕ → Option (List ℕ)) (text : List ℕ) (ended : ℕ)
     (P : List ℕ → Type 0) → P text → IfHeld t held (λ b s. IsAnswerTo t b s text ended)
@@ -87,17 +99,18 @@ front_of_answer task t is held text ended P front has =
 
 -- A check that ends with 0.
 
-checks : (file : List ℕ) (held : List ℕ → Option (List ℕ)) (text : List ℕ) (ended : ℕ) → ended ≡ 0
-    → IfHeld (CheckFile file) held (λ b s. IsAnswerTo (CheckFile file) b s text ended)
-    → IfSome (held file) (λ b. (spec : Spec) × IsSystemOf b spec × IsSafe spec)
-checks file held text ended zero has = of_one (held file) (λ b checked. (checked.report.spec, checked.report.system, checked.safe zero)) has
+checks : (file : List ℕ) (depth width : ℕ) (held : List ℕ → Option (List ℕ)) (text : List ℕ) (ended : ℕ) → ended ≡ 0
+    → IfHeld (CheckFile file depth width) held (λ b s. IsAnswerTo (CheckFile file depth width) b s text ended)
+    → IfSome (held file) (λ b. (spec : Spec) × IsSpecification width b spec × IsSafe spec)
+checks file depth width held text ended zero has =
+    of_one (held file) (λ b checked. (checked.report.spec, checked.report.described, checked.safe zero)) has
 
 same_task : (t u : Task) → Some t ≡ Some u → t ≡ u
 same_task t u e = cc
 
 pub safe_check : (task : Option Task) (t : Task) → task ≡ Some t → (held : List ℕ → Option (List ℕ)) (text : List ℕ) (ended : ℕ)
-    → IfHeld t held (λ b s. IsAnswerTo t b s text ended) → ended ≡ 0 → (file : List ℕ) → task ≡ Some (CheckFile file)
-    → IfSome (held file) (λ b. (spec : Spec) × IsSystemOf b spec × IsSafe spec)
-safe_check task t is held text ended has zero file checking =
-    checks file held text ended zero
-    (subst (λ (u : Task). IfHeld u held (λ b s. IsAnswerTo u b s text ended)) (same_task t (CheckFile file) (sym is ∙ checking)) has)
+    → IfHeld t held (λ b s. IsAnswerTo t b s text ended) → ended ≡ 0 → (file : List ℕ) (depth width : ℕ) → task ≡ Some (CheckFile file depth width)
+    → IfSome (held file) (λ b. (spec : Spec) × IsSpecification width b spec × IsSafe spec)
+safe_check task t is held text ended has zero file depth width checking =
+    checks file depth width held text ended zero
+    (subst (λ (u : Task). IfHeld u held (λ b s. IsAnswerTo u b s text ended)) (same_task t (CheckFile file depth width) (sym is ∙ checking)) has)

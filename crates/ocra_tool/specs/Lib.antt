@@ -1,11 +1,10 @@
 pub mod Answers
-pub mod BuiltTables
 pub mod Commands
 pub mod Decided
 pub mod Files
+pub mod Given
 pub mod Laws
 pub mod Lines
-pub mod NotBuilt
 pub mod Outcomes
 pub mod Replays
 pub mod Reporting

@@ -1,6 +1,6 @@
 //! Laws about files, for the top call and the commands. None of these functions has code.
 
-ghost use Rattle.ocra_tool.specs.Laws.{SoundHasNoFault, SoundHasNoSecondFault, BuiltIsPropositional};
+ghost use Rattle.ocra_tool.specs.Laws.{SoundHasNoFault, SoundHasNoSecondFault, FilesCanBeDecided};
 ghost use Rattle.ocra_tool.specs.Laws.{ReplaysAreModerate, ReplaysHaveOneText};
 
 /// Files without a fault for a task have none: neither FILE nor the second file. (A law without code: who calls this
@@ -15,12 +15,12 @@ pub fn sound_files_have_no_fault()
     replay::lassos_dont_break();
 }
 
-/// The levels of a specification that is decided are over truth values. (A law without code.)
-pub fn built_is_propositional()
-    ensures { BuiltIsPropositional }
+/// The levels of a specification that is a file can be decided. (A law without code.)
+pub fn files_can_be_decided()
+    ensures { FilesCanBeDecided }
 {
-    architecture::texts_have_state_sources();
-    architecture::resolved_is_well_formed();
+    file_types::files_have_codable_types();
+    file_types::files_read_free_ports();
 }
 
 /// Terms stay moderate where a lasso of a file's specification is judged. (A law without code.)

@@ -7,9 +7,9 @@
 mod arguments;
 mod check;
 mod files;
+mod given;
 mod laws;
 mod lines;
-mod not_built;
 mod outcome;
 mod replaying;
 #[cfg(test)]

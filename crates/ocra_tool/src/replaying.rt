@@ -2,19 +2,19 @@
 //! first fault. Main function: `replay_files`. It reads the shelf and writes to no sink.
 
 ghost use Rattle.std.specs.Prelude.{◌≡◌, ◌≤◌, ◌↔◌, List, ℕ, Option, Some, Err, length, IfOk, IfSome};
-ghost use Rattle.oss_base.specs.Faults.{IfFault};
 ghost use Rattle.oss_base.specs.Limits.{most_bytes};
 ghost use Rattle.replay.specs.LassoFiles.{IsLasso, IsBreak};
 ghost use Rattle.replay.specs.declared.named.LassoStop.TheVariants as stops;
-ghost use Rattle.ocra_tool.specs.Files.{IsFaultOf, IsSoleSpecification};
+ghost use Rattle.ocra_tool.specs.Files.{IsSoleSpecification};
 ghost use Rattle.ocra_tool.specs.Outcomes.{Means};
 ghost use Rattle.ocra_tool.specs.Replays.{IsReplayOf};
-ghost use Rattle.ocra_tool.specs.Words.{ReplayLasso};
+ghost use Rattle.ocra_tool.specs.Words.{ReplayLasso, default_width};
 
 use crate::files::{described, refused, unread};
 use crate::laws::{replays_are_moderate, replays_have_one_text};
 use crate::lines::lasso_break_line;
 use crate::outcome::{Outcome, Report};
+use crate::words::DEFAULT_WIDTH;
 use oss_base::{MOST_BYTES, Stop};
 use oss_io::{ReadStop, Shelf, read_all};
 use port_types::{NoMemory, Text};
@@ -64,22 +64,11 @@ fn replay_bytes<'a, F: Shelf>(
     ensures admits { (n : List ℕ) → F.admits shelf.old n ↔ F.admits shelf.new n }
     ensures later { F.faults shelf.old ≤ F.faults shelf.new }
 {
-    match sole_spec(alloc, bytes) {
-        Ok(spec) => replay_spec(alloc, bytes, &spec, lasso, shelf),
+    match described(alloc, bytes, DEFAULT_WIDTH) {
+        Ok(source) => replay_spec(alloc, bytes, &source.spec, lasso, shelf),
         Err(Stop::Fault(fault)) => refused(alloc, file, fault),
         Err(Stop::NoMemory) => Outcome::NoMemory,
     }
-}
-
-/// The specification that the bytes are, or their first fault.
-fn sole_spec(alloc: Global, bytes: &[u8]) -> Result<Spec, Stop>
-    requires { length bytes.now ≤ most_bytes }
-    ensures spec { IfOk result (IsSoleSpecification bytes.now) }
-    ensures fault { IfFault result (IsFaultOf bytes.now) }
-{
-    architecture::stands_is_unique();
-    let described = described(alloc, bytes)?;
-    Ok(described.spec)
 }
 
 /// What comes of LASSO, where FILE has no fault.
@@ -90,7 +79,7 @@ fn replay_spec<'a, F: Shelf>(
     lasso: &'a str,
     shelf: &mut F,
 ) -> Outcome<'a>
-    requires sole { IsSoleSpecification bytes.now spec.now }
+    requires sole { IsSoleSpecification default_width bytes.now spec.now }
     requires admits { F.admits shelf.old lasso.now }
 
     ensures means { (file : List ℕ) → Means (Some bytes.now) (F.held shelf.old lasso.now) (F.faults shelf.old)
@@ -116,7 +105,7 @@ fn replay_lasso<'a>(
     lasso: &'a str,
     second: &[u8],
 ) -> Outcome<'a>
-    requires { IsSoleSpecification bytes.now spec.now }
+    requires { IsSoleSpecification default_width bytes.now spec.now }
     ensures { (file : List ℕ) (before now : ℕ) → Means (Some bytes.now) (Some second.now) before now
         (ReplayLasso file lasso.now) result }
 {
@@ -135,7 +124,7 @@ fn lasso_refused<'a>(
     lasso: &'a str,
     line: u32,
 ) -> Outcome<'a>
-    requires { IsSoleSpecification bytes.now spec.now }
+    requires { IsSoleSpecification default_width bytes.now spec.now }
     ensures { (file : List ℕ) (other : Option (List ℕ)) (before now : ℕ)
         → IfSome other (λ second. IsBreak spec.now second line)
         → Means (Some bytes.now) other before now (ReplayLasso file lasso.now) result }
@@ -148,7 +137,7 @@ fn lasso_refused<'a>(
 
 /// What the lasso that the second bytes mean says of the contracts, as text, or the first line at which they break.
 fn replay_text(alloc: Global, bytes: &[u8], spec: &Spec, second: &[u8]) -> Result<Text, LassoStop>
-    requires { IsSoleSpecification bytes.now spec.now }
+    requires { IsSoleSpecification default_width bytes.now spec.now }
     ensures text { IfOk result (IsReplayOf bytes.now second.now) }
     ensures stops { (line : ℕ) → result ≡ Err (stops.Fault line) → IsBreak spec.now second.now line }
 {
@@ -166,7 +155,7 @@ fn judged_text(
     second: &[u8],
     named: &NamedLasso,
 ) -> Result<Text, NoMemory>
-    requires sole { IsSoleSpecification bytes.now spec.now }
+    requires sole { IsSoleSpecification default_width bytes.now spec.now }
     requires lasso { IsLasso spec.now second.now named.now }
     ensures { IfOk result (IsReplayOf bytes.now second.now) }
 {

@@ -35,7 +35,7 @@ const USAGE: &str =
     "usage: ocra_tool check|tree|certify FILE [--depth 1..32] [--width 1..3] | print FILE | replay FILE LASSO | recheck FILE CERT | sample N\n";
 
 /// Command lines that mean nothing, each a line of words.
-const MEANINGLESS: [&str; 15] = [
+const MEANINGLESS: [&str; 18] = [
     "",
     "check",
     "check \"\"",
@@ -43,11 +43,14 @@ const MEANINGLESS: [&str; 15] = [
     "check --",
     "check a b",
     "check x.oss --depth 8 --depth 8",
+    "check x.oss --depth 08",
+    "check x.oss --depth --width 3",
     "print x.oss --width 2",
     "tree x.oss",
     "replay x.oss",
     "replay x.oss \"\"",
     "replay x.oss l.txt -8",
+    "replay x.oss l.txt --width 2",
     "Check x.oss",
     "--help",
     "\"\" x.oss",
@@ -165,7 +168,7 @@ fn tells_a_write_fault_after_a_front_of_the_report(rt: HostRuntime) -> Result<()
 #[test]
 fn a_fault_of_the_error_sink_changes_no_status(rt: HostRuntime) -> Result<(), Fail> {
     for (line, text, status, err) in [
-        ("check x.oss", EMPTY, 0, ""),
+        ("check --width 3 x.oss --depth 32", EMPTY, 0, ""),
         ("check x.oss", "COMPONENT", 3, "x.os"),
         ("check y.oss", EMPTY, 5, "y.os"),
         ("tree x.oss", EMPTY, 4, "usag"),

@@ -8,8 +8,8 @@ ghost use Rattle.oss_io.specs.Outside.{AppendsFront, Rose};
 ghost use Rattle.spec_model.specs.declared.spec.Spec.{Spec};
 ghost use Rattle.obligations.specs.Systems.{IsSafe};
 ghost use Rattle.ocra_tool.specs.Answers.{IfHeld, IsQuiet, OfFile, OfFiles};
-ghost use Rattle.ocra_tool.specs.Commands.{task_meant};
-ghost use Rattle.ocra_tool.specs.Files.{IsSystemOf};
+ghost use Rattle.ocra_tool.specs.Commands.{IsInRange, task_meant};
+ghost use Rattle.ocra_tool.specs.Files.{IsSpecification};
 ghost use Rattle.ocra_tool.specs.Lines.{Says, no_memory_line, read_fault_line, usage_line, write_fault_line};
 ghost use Rattle.ocra_tool.specs.Outcomes.{MayBeUnread, Means, fault_line_of};
 ghost use Rattle.ocra_tool.specs.Statuses.{IsDone, IsStatus};
@@ -30,9 +30,10 @@ use std::alloc::Global;
 /// Does what the words ask: reads from the shelf, writes the answer to `out` and a line on what went
 /// wrong to `err`, and answers the status that the program ends with.
 ///
-/// The statuses are 0 (done, nothing is refuted), 1 (done, something is refuted), 3 (the file is
-/// refused), 4 (the words mean no command), 5 (a file could not be read), 6 (the output could not be
-/// written), 7 (want of memory) and 8 (the second file is refused).
+/// The statuses are 0 (done, nothing is refuted or undecided), 1 (done, something is refuted), 2 (done,
+/// nothing is refuted and something is undecided), 3 (the file is refused), 4 (the words mean no command),
+/// 5 (a file could not be read), 6 (the output could not be written), 7 (want of memory) and 8 (the second
+/// file is refused).
 pub fn run<F: Shelf, O: Sink, E: Sink>(
     alloc: Global,
     words: &[String],
@@ -46,10 +47,11 @@ pub fn run<F: Shelf, O: Sink, E: Sink>(
 
     ensures statuses { IsStatus result }
 
-    // 0 and 1, done: `out` took a whole text, and `err` is untouched. FILE has no fault for the task, and
+    // 0, 1 and 2, done: `out` took a whole text, and `err` is untouched. FILE has no fault for the task, and
     // the task is answered by this text and this status. Of `check`: the file's bytes are a specification of
-    // which the text is the report, and the status is 1 exactly where the report has something refuted. Of
-    // `replay`: the text is that of the judgements, and the status is 0.
+    // which the text is the report, what it says is proved is valid, and the status is 1 exactly where the
+    // report has something refuted, 2 where it has none and something undecided. Of `replay`: the text is that
+    // of the judgements, and the status is 0.
     ensures done { IsDone result → IfSome (task_of words.now) (λ task. IsStatusOf task result × (text : List ℕ) ×
         Appends (O.taken out.old) (O.taken out.new) text
         × IfSome (F.held shelf.old (first_file task)) (IsSound task)
@@ -57,8 +59,9 @@ pub fn run<F: Shelf, O: Sink, E: Sink>(
     ensures done_quiet { IsDone result → err.new ≡ err.old }
 
     // 0 of `check`: everything is proved, and the system is safe.
-    ensures safe { result ≡ 0 → (file : List ℕ) → task_of words.now ≡ Some (CheckFile file)
-        → IfSome (F.held shelf.old file) (λ bytes. (spec : Spec) × IsSystemOf bytes spec × IsSafe spec) }
+    ensures safe { result ≡ 0 → (file : List ℕ) (depth width : ℕ)
+        → task_of words.now ≡ Some (CheckFile file depth width)
+        → IfSome (F.held shelf.old file) (λ bytes. (spec : Spec) × IsSpecification width bytes spec × IsSafe spec) }
 
     // 3, refused: FILE's bytes have a fault, and the line says which one.
     ensures refused { result ≡ 3 → IfSome (task_of words.now) (λ task. (fault : Fault) ×
@@ -99,8 +102,8 @@ pub fn run<F: Shelf, O: Sink, E: Sink>(
     ensures no_memory_line { result ≡ 7 →
         Says (E.taken err.old) (E.taken err.new) (E.faults err.old) (E.faults err.new) no_memory_line }
 
-    // `out` is written to at 0, 1 and 6 alone.
-    ensures out_untouched { result ≢ 0 → result ≢ 1 → result ≢ 6 → out.new ≡ out.old }
+    // `out` is written to at 0, 1, 2 and 6 alone.
+    ensures out_untouched { result ≢ 0 → result ≢ 1 → result ≢ 2 → result ≢ 6 → out.new ≡ out.old }
 
     // Where the words mean a command and no call on the shelf or `out` failed, the answer is a status of
     // the task for files without a fault, 3 for a FILE that has one, 8 for a second file that has one
@@ -162,6 +165,7 @@ pub fn run<F: Shelf, O: Sink, E: Sink>(
 /// What comes of a command.
 fn outcome_of<'a, F: Shelf>(alloc: Global, command: Command<'a>, shelf: &mut F) -> Outcome<'a>
     requires admitted { OfNames (task_meant command) (F.admits shelf.old) }
+    requires in_range { IsInRange command }
 
     ensures means { let task = task_meant command.entry in
         Means (F.held shelf.old (first_file task)) (second_bytes (second_file task) (F.held shelf.old))
@@ -172,7 +176,7 @@ fn outcome_of<'a, F: Shelf>(alloc: Global, command: Command<'a>, shelf: &mut F) 
     ensures later { F.faults shelf.old ≤ F.faults shelf.new }
 {
     match command {
-        Command::Check { file } => check_file(alloc, file, shelf),
+        Command::Check { file, depth, width } => check_file(alloc, file, depth, width, shelf),
         Command::Replay { file, lasso } => replay_files(alloc, file, lasso, shelf),
     }
 }

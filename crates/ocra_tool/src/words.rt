@@ -1,13 +1,22 @@
 //! Which command the words of a command line mean. Main function: `parse_words`. It touches nothing.
 
-ghost use Rattle.std.specs.Prelude.{◌≡◌, ◌∷◌, [], option_map};
-ghost use Rattle.ocra_tool.specs.Words.{task_of, words_mean, is_operand};
+ghost use Rattle.std.specs.Prelude.{◌≡◌, option_map};
 ghost use Rattle.ocra_tool.specs.Commands.{task_meant};
+ghost use Rattle.ocra_tool.specs.Given.{arguments_meant};
+ghost use Rattle.ocra_tool.specs.Words.{check_with as task_to_check, replay_with as task_to_replay, task_of, task_with};
 
-/// A command with its operands, lent by the words that mean it.
+use crate::given::{Given, Operands, given_by};
+
+/// The depth and the width where no option gives another.
+const DEFAULT_DEPTH: u8 = 8;
+
+pub const DEFAULT_WIDTH: u8 = 2;
+
+/// A command with its operands, lent by the words that mean it, and with the numbers of its options. The depth is from
+/// 1 to 32, the width from 1 to 3.
 #[derive(Clone, Copy, Debug)]
 pub enum Command<'a> {
-    Check { file: &'a str },
+    Check { file: &'a str, depth: u8, width: u8 },
     Replay { file: &'a str, lasso: &'a str },
 }
 
@@ -16,43 +25,44 @@ pub fn parse_words(words: &[String]) -> Option<Command<'_>>
     ensures { option_map task_meant result ≡ task_of words.now }
 {
     match words {
-        [command, file] => with_file(command.as_str(), file.as_str()),
-        [command, file, second] => with_files(command.as_str(), file.as_str(), second.as_str()),
+        [command, words @ ..] => command_with(command.as_str(), given_by(words)?),
+        [] => None,
+    }
+}
+
+/// The command of this name with these arguments.
+fn command_with<'a>(command: &str, given: Given<'a>) -> Option<Command<'a>>
+    ensures { option_map task_meant result ≡ task_with command.now (arguments_meant given.entry) }
+{
+    match command {
+        "check" => check_with(given),
+        "replay" => replay_with(given),
         _ => None,
     }
 }
 
-/// The command of this name with one operand.
-fn with_file<'a>(command: &str, file: &'a str) -> Option<Command<'a>>
-    ensures { option_map task_meant result ≡ words_mean (command.now ∷ file.now ∷ []) }
+/// `check` with these arguments: one operand.
+fn check_with(given: Given<'_>) -> Option<Command<'_>>
+    ensures { let a = arguments_meant given.entry in
+        option_map task_meant result ≡ task_to_check a.operands a.depths a.widths }
 {
-    if command == "check" && is_operand(file) {
-        Some(Command::Check { file })
-    } else {
-        None
-    }
-}
-
-/// The command of this name with two operands.
-fn with_files<'a>(command: &str, file: &'a str, second: &'a str) -> Option<Command<'a>>
-    ensures { option_map task_meant result ≡ words_mean (command.now ∷ file.now ∷ second.now ∷ []) }
-{
-    if command == "replay" && is_operand(file) && is_operand(second) {
-        Some(Command::Replay {
+    match given.operands {
+        Operands::One(file) => Some(Command::Check {
             file,
-            lasso: second,
-        })
-    } else {
-        None
+            depth: given.depth.unwrap_or(DEFAULT_DEPTH),
+            width: given.width.unwrap_or(DEFAULT_WIDTH),
+        }),
+        Operands::Zero | Operands::Two(..) => None,
     }
 }
 
-/// Whether a word stands for itself: it is not empty and doesn't begin with `-`.
-fn is_operand(word: &str) -> bool
-    ensures { result ≡ is_operand word.now }
+/// `replay` with these arguments: two operands and no option.
+fn replay_with(given: Given<'_>) -> Option<Command<'_>>
+    ensures { let a = arguments_meant given.entry in
+        option_map task_meant result ≡ task_to_replay a.operands a.depths a.widths }
 {
-    match word.as_bytes() {
-        [] => false,
-        [first, ..] => *first != b'-',
+    match (given.operands, given.depth, given.width) {
+        (Operands::Two(file, lasso), None, None) => Some(Command::Replay { file, lasso }),
+        _ => None,
     }
 }

@@ -10,8 +10,8 @@ use Rattle.spec_model.specs.declared.item.Item.{Item}
 use Rattle.typed_ltl.specs.declared.lasso.Verdict.{Verdict}
 use Rattle.typed_ltl.specs.declared.lasso.Verdict.TheVariants as verdict
 use Rattle.obligations.specs.declared.name.ObligationName.{ObligationName}
-use Rattle.obligations.specs.Safety.{AreProved, AllAreProved, ProvedSystemsAreSafe}
-use Rattle.obligations.specs.Verdicts.{AreVerdicts}
+use Rattle.level_verdicts.specs.Safety.{AreProved, AllAreProved, ProvedSystemsAreSafe}
+use Rattle.level_verdicts.specs.Verdicts.{AreVerdicts}
 use Rattle.report.specs.declared.answers.Answer.{Answer}
 use Rattle.report.specs.Answers.{says_proved, says_refuted, says_undecided, is_proved, is_refuted, is_undecided, status}
 use Rattle.report.specs.AllAnswers.{answer, obligation_of, answers_from, level_answers, AreAnswersFrom, SuccessIsSafe}
@@ -26,19 +26,19 @@ answers_pushed item k (u ∷ vs) v =
     rw z (ap (λ (xs : List Answer). answer (obligation_of item k) u ∷ xs) (answers_pushed item (k + 1) vs v))
 
 -- one more level
-pub level_pushed : (spec : Spec) (n : ℕ) (items : List Item) (answers : List Answer) (item : Item) (vs : List Verdict)
-    → AreAnswersFrom spec n items answers → AreVerdicts spec item vs
-    → AreAnswersFrom spec n (items ++ item ∷ []) (answers ++ level_answers (n + length items) vs)
-level_pushed spec n [] answers item vs h v =
+pub level_pushed : (spec : Spec) (depth n : ℕ) (items : List Item) (answers : List Answer) (item : Item) (vs : List Verdict)
+    → AreAnswersFrom spec depth n items answers → AreVerdicts spec item depth vs
+    → AreAnswersFrom spec depth n (items ++ item ∷ []) (answers ++ level_answers (n + length items) vs)
+level_pushed spec depth n [] answers item vs h v =
     let z : n + 0 ≡ n = omega arith in
     (vs, [], v, rw h (rw z (sym (append-nil (level_answers n vs)))), refl)
-level_pushed spec n (x ∷ items) answers item vs h v =
+level_pushed spec depth n (x ∷ items) answers item vs h v =
     let z : n + suc (length items) ≡ n + 1 + length items = omega arith in (
       h.0,
       h.1 ++ level_answers (n + 1 + length items) vs,
       h.2,
       rw z (rw h.3 (append_assoc (level_answers n h.0) h.1 (level_answers (n + 1 + length items) vs))),
-      level_pushed spec (n + 1) items h.1 item vs h.4 v,
+      level_pushed spec depth (n + 1) items h.1 item vs h.4 v,
     )
 
 taken : {X : Type 0} (xs : List X) (i : ℕ) (x : X) → i < length xs → x ≡ get_or xs i x
@@ -63,14 +63,14 @@ level_step item vs i v name old now new l e n h p =
     rw p (rw h (rw pushed (append_assoc old (answers_from item 0 (take i vs)) (answer name v ∷ []))))
 
 -- one more level of those of a list
-pub levels_step : (spec : Spec) (items : List Item) (i : ℕ) (item : Item) (vs : List Verdict) (n : ℕ) (old new : List Answer) → i < length items
+pub levels_step : (spec : Spec) (depth : ℕ) (items : List Item) (i : ℕ) (item : Item) (vs : List Verdict) (n : ℕ) (old new : List Answer) → i < length items
     → item ≡ get_or items i item → n ≡ i
-    → AreAnswersFrom spec 0 (take i items) old → AreVerdicts spec item vs → new ≡ old ++ level_answers n vs
-    → AreAnswersFrom spec 0 (take (i + 1) items) new
-levels_step spec items i item vs n old new l e same h v p =
+    → AreAnswersFrom spec depth 0 (take i items) old → AreVerdicts spec item depth vs → new ≡ old ++ level_answers n vs
+    → AreAnswersFrom spec depth 0 (take (i + 1) items) new
+levels_step spec depth items i item vs n old new l e same h v p =
     let t : length (take i items) ≡ i = length_taken items i l in
     let z : 0 + length (take i items) ≡ i = omega arith in
-    rw (taken items i item l e) (rw p (rw same (rw z at (level_pushed spec 0 (take i items) old item vs h v))))
+    rw (taken items i item l e) (rw p (rw same (rw z at (level_pushed spec depth 0 (take i items) old item vs h v))))
 
 -- The status 0 says that all is proved.
 
@@ -103,20 +103,20 @@ proved_from item k (verdict.Proved ∷ vs) rest e = proved_from item (k + 1) vs 
 proved_from item k (verdict.Undecided ∷ vs) rest e = absurd (false≢true e)
 proved_from item k (verdict.Refuted lasso ∷ vs) rest e = absurd (false≢true e)
 
-levels_proved : (spec : Spec) (n : ℕ) (items : List Item) (answers : List Answer)
-    → AreAnswersFrom spec n items answers → list_all is_proved answers ≡ true
+levels_proved : (spec : Spec) (depth n : ℕ) (items : List Item) (answers : List Answer)
+    → AreAnswersFrom spec depth n items answers → list_all is_proved answers ≡ true
     → (m : ℕ) (item : Item) → slice_get items m ≡ Some item
-    → (vs : List Verdict) × AreVerdicts spec item vs × AreProved vs
-levels_proved spec n [] answers h p m item e = cc
-levels_proved spec n (x ∷ items) answers h p zero item e =
+    → (vs : List Verdict) × AreVerdicts spec item depth vs × AreProved vs
+levels_proved spec depth n [] answers h p m item e = cc
+levels_proved spec depth n (x ∷ items) answers h p zero item e =
     let same : x ≡ item = cc in
     let q = proved_from (record { 0 = n }) 0 h.0 h.1 (rw h.3 at p) in
-    subst (λ (i : Item). (vs : List Verdict) × AreVerdicts spec i vs × AreProved vs) same (h.0, h.2, q.0)
-levels_proved spec n (x ∷ items) answers h p (suc m) item e =
+    subst (λ (i : Item). (vs : List Verdict) × AreVerdicts spec i depth vs × AreProved vs) same (h.0, h.2, q.0)
+levels_proved spec depth n (x ∷ items) answers h p (suc m) item e =
     let q = proved_from (record { 0 = n }) 0 h.0 h.1 (rw h.3 at p) in
-    levels_proved spec (n + 1) items h.1 h.4 q.1 m item e
+    levels_proved spec depth (n + 1) items h.1 h.4 q.1 m item e
 
 pub success_is_safe : ProvedSystemsAreSafe → SuccessIsSafe
-success_is_safe safe spec ok answers h e k w trace leaves x =
-    let proved : AllAreProved spec = λ n item s. levels_proved spec 0 spec.items answers h (all_proved answers e) n item s in
-    safe spec ok proved k w trace leaves x
+success_is_safe safe spec depth ok deep answers h e k w trace leaves x =
+    let proved : AllAreProved spec depth = λ n item s. levels_proved spec depth 0 spec.items answers h (all_proved answers e) n item s in
+    safe spec depth ok deep proved k w trace leaves x

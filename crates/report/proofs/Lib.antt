@@ -1,2 +1,4 @@
 pub mod AllAnswers
+mod Nothing
+pub mod SmallLevels
 pub mod Unique

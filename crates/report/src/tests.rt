@@ -1,6 +1,12 @@
 //! Texts written by hand.
 
-use crate::{Answer, Answers, answer_by_valuations, render_check, render_judgements, status_of};
+ghost use Rattle.std.specs.Prelude.{◌≡◌, ℕ, [], None};
+ghost use Rattle.levels.specs.Levels.{AreLevels};
+ghost use Rattle.levels.specs.LevelFaults.{first_level_fault};
+ghost use Rattle.level_verdicts.specs.Verdicts.{CanBeDecided};
+
+use crate::{Answer, Answers, answer_levels, render_check, render_judgements, status_of};
+use levels::LevelList;
 use obligations::ObligationName;
 use oss_base::{ComponentId, ContractId, ItemId, Place, SubId};
 use port_types::{Name, Names, NoMemory, PortId, PortType, Value};
@@ -20,14 +26,14 @@ fn uses(alloc: Global) -> Uses {
     }
 }
 
-/// One contract without assumption.
-fn contracts(alloc: Global, name: &str, guarantee: Formula) -> Result<Contracts, NoMemory> {
+/// One contract that asks and gives nothing.
+fn contracts(alloc: Global, name: &str) -> Result<Contracts, NoMemory> {
     let mut contracts = Contracts::new(alloc);
     contracts.push(Contract {
         name: Name::new(alloc, name)?,
         assume: Formula::True,
         assume_uses: uses(alloc),
-        guarantee,
+        guarantee: Formula::True,
         guarantee_uses: uses(alloc),
     })?;
     Ok(contracts)
@@ -68,7 +74,7 @@ fn leaf(alloc: Global, name: &str, ports: OwnPorts, contract: &str) -> Result<Co
     Ok(Component {
         name: Name::new(alloc, name)?,
         ports,
-        contracts: contracts(alloc, contract, Formula::True)?,
+        contracts: contracts(alloc, contract)?,
         subs: Subs::new(alloc),
         wires: Wires::new(alloc),
     })
@@ -109,11 +115,9 @@ fn subs(alloc: Global, names: &[&str]) -> Result<Subs, NoMemory> {
     Ok(subs)
 }
 
-/// Two valves whose inputs are connected, and an output `fire` that is, and what the system guarantees.
-/// Free are `cmd`, `a.flow` and `b.flow`.
-fn valves(alloc: Global, guarantee: Formula) -> Result<Spec, NoMemory> {
+/// Two valves whose inputs are connected, and an output `fire` that is. Free are `cmd`, `a.flow` and `b.flow`.
+fn valves(alloc: Global) -> Result<Spec, NoMemory> {
     let mut top = leaf(alloc, "Thr", gate(alloc, "cmd", "fire")?, "safe")?;
-    top.contracts = contracts(alloc, "safe", guarantee)?;
     top.subs = subs(alloc, &["a", "b"])?;
     connect(&mut top.wires, alloc, Some(0), 0)?;
     connect(&mut top.wires, alloc, Some(1), 0)?;
@@ -196,15 +200,6 @@ proved Thr.safe assumes b.tight
 proved 3 refuted 0 undecided 0
 ";
 
-const NEVER_MET: &[u8] = b"refuted Thr.safe entails
-lasso Thr 1 0
-state cmd=false a.flow=false b.flow=false
-end
-proved Thr.safe assumes a.tight
-proved Thr.safe assumes b.tight
-proved 2 refuted 1 undecided 0
-";
-
 const NONE: &[u8] = b"proved 0 refuted 0 undecided 0\n";
 
 const ONE_REFUTED: &[u8] = b"refuted Thr.safe entails
@@ -227,7 +222,7 @@ proved 0 refuted 1 undecided 0
 #[test]
 fn reports_have_their_texts(rt: HostRuntime) -> Result<(), Fail> {
     let alloc = rt.alloc();
-    let spec = valves(alloc, Formula::True)?;
+    let spec = valves(alloc)?;
     let proved = answers(alloc, Verdict::Proved, Verdict::Proved, Verdict::Proved)?;
     assert_eq!(rt; render_check(alloc, &spec, &proved)?.as_slice(), ALL_PROVED);
     assert_eq!(rt; status_of(&proved), 0);
@@ -275,20 +270,35 @@ fn lassos_show_all_kinds_of_values(rt: HostRuntime) -> Result<(), Fail> {
     Ok(())
 }
 
+/// A specification that has nothing.
+fn nothing(alloc: Global) -> Spec
+    ensures decidable { CanBeDecided result }
+    ensures clear { (width : ℕ) × (first_level_fault width result ≡ None) }
+    ensures items { result.items ≡ [] }
+{
+    Spec {
+        components: Components::new(alloc),
+        items: Items::new(alloc),
+        system: ComponentId(0),
+    }
+}
+
+/// The levels of a specification without items.
+fn no_levels(alloc: Global, spec: &Spec) -> LevelList
+    requires { spec.now.items ≡ [] }
+    ensures { AreLevels spec.now spec.now.items result }
+{
+    LevelList::new(alloc)
+}
+
 #[test]
-fn specifications_over_truth_values_are_answered(rt: HostRuntime) -> Result<(), Fail> {
+fn a_specification_without_items_has_no_answers(rt: HostRuntime) -> Result<(), Fail> {
     let alloc = rt.alloc();
-    let spec = valves(alloc, Formula::True)?;
-    let answers = answer_by_valuations(alloc, &spec)?;
-    assert_eq!(rt;
-        render_check(alloc, &spec, &answers)?.as_slice(),
-        ALL_PROVED
-    );
+    let spec = nothing(alloc);
+    let levels = no_levels(alloc, &spec);
+    let answers = answer_levels(alloc, &spec, &levels, 1)?;
+    assert_eq!(rt; render_check(alloc, &spec, &answers)?.as_slice(), NONE);
     assert_eq!(rt; status_of(&answers), 0);
-    let spec = valves(alloc, Formula::False)?;
-    let answers = answer_by_valuations(alloc, &spec)?;
-    assert_eq!(rt; render_check(alloc, &spec, &answers)?.as_slice(), NEVER_MET);
-    assert_eq!(rt; status_of(&answers), 1);
     Ok(())
 }
 
@@ -314,7 +324,7 @@ b.tight assume false guarantee true
 #[test]
 fn judgements_have_their_text(rt: HostRuntime) -> Result<(), Fail> {
     let alloc = rt.alloc();
-    let spec = valves(alloc, Formula::True)?;
+    let spec = valves(alloc)?;
     let mut judgements = Judgements::new(alloc);
     judgements.push(judgement(None, true, true))?;
     judgements.push(judgement(Some(0), true, false))?;

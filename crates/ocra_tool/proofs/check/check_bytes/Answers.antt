@@ -1,9 +1,8 @@
 use Rattle.std.proofs.Common.{[], Some, refl}
 use Rattle.ocra_tool.specs.Words.{CheckFile}
-use Rattle.ocra_tool.proofs.Reading.{fault_for}
 use Rattle.ocra_tool.proofs.check.check_bytes.Goals as goal
 
 pub returns-in-Err-Fault : goal.returns-in-Err-Fault
 returns-in-Err-Fault c = λ before now.
-    c.refused.ensures (CheckFile c.args.file.now) (Some c.args.bytes.now) (Some []) before now refl
-    (fault_for (CheckFile c.args.file.now) c.args.bytes.now c.in-Err-Fault.fault (rw c.in-Err-Fault.field-0-is at c.in-Err-Fault.ensures.fault))
+    c.refused.ensures (CheckFile c.args.file.now c.args.depth c.args.width) (Some c.args.bytes.now) (Some []) before now refl
+    (rw c.in-Err-Fault.field-0-is at c.in-Err-Fault.ensures.fault)

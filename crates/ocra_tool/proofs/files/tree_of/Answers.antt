@@ -7,6 +7,6 @@ returns-clause-tree c =
     c.in_ok-tokens.ensures.tokens c.read_tree.ensures.text c.read_tree.ensures.only
 
 pub returns-clause-fault : goal.returns-clause-fault
-returns-clause-fault c =
-    syntax_fault c.args.bytes.now c.in_ok-tokens.tokens c.read_tree.result c.requires
+returns-clause-fault c = λ width.
+    syntax_fault width c.args.bytes.now c.in_ok-tokens.tokens c.read_tree.result c.requires
     c.in_ok-tokens.ensures.tokens c.read_tree.ensures.none c.read_tree.ensures.kind

@@ -1,9 +1,10 @@
+use Rattle.ocra_tool.specs.Words.{default_width}
 use Rattle.ocra_tool.proofs.Replayed.{replay_of}
 use Rattle.ocra_tool.proofs.replaying.judged_text.Goals as goal
 
 pub judge-requires : goal.judge-requires
 judge-requires c =
-    c.replays_are_moderate.ensures c.args.bytes.now c.args.second.now c.args.spec.now c.args.named.now c.requires.sole.is c.requires.lasso
+    c.replays_are_moderate.ensures default_width c.args.bytes.now c.args.second.now c.args.spec.now c.args.named.now c.requires.sole.is c.requires.lasso
 
 pub returns : goal.returns
 returns c =

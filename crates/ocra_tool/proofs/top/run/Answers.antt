@@ -1,10 +1,13 @@
-use Rattle.std.proofs.Common.{sym, ap, ◌∙◌, ◌≡◌, ◌⊎◌, ℕ, List, subst}
+use Rattle.std.proofs.Common.{sym, ap, ◌∙◌, ◌≡◌, ◌⊎◌, ℕ, List, subst, map, string_bytes, refl}
+use Rattle.std.proofs.Math.Logic.{inl}
 use Rattle.std.specs.Option.{option_map}
 use Rattle.oss_io.specs.Outside.{AppendsFront}
 use Rattle.ocra_tool.specs.Commands.{task_meant}
 use Rattle.ocra_tool.specs.Tasks.{IsStatusOf}
 use Rattle.ocra_tool.specs.Words.{Task, task_of}
-use Rattle.ocra_tool.proofs.Running.{sound_not_faulty, faulty_not_sound, faulty_not_second, answered_not_second, second_not_sound, front_of_answer, safe_check}
+use Rattle.ocra_tool.proofs.Ranges.{command_in_range}
+use Rattle.ocra_tool.proofs.Running.{sound_not_faulty, faulty_not_sound, faulty_not_second, answered_not_second, second_not_sound}
+use Rattle.ocra_tool.proofs.Running.{second_refused, front_of_answer, safe_check}
 use Rattle.ocra_tool.proofs.top.run.Goals as goal
 
 pub returns-in-Refused-clause-complete_sound : goal.returns-in-Refused-clause-complete_sound
@@ -42,9 +45,13 @@ returns-in-Done-clause-write_fault_text g c = λ six.
     c.in-Done.ensures.means.2
 
 pub returns-in-Ok-clause-safe : goal.returns-in-Ok-clause-safe
-returns-in-Ok-clause-safe g c = λ zero file checking.
+returns-in-Ok-clause-safe g c = λ zero file depth width checking.
     safe_check (task_of c.args.words.now) (task_meant c.in-Some.command) (sym c.parse_words.ensures ∙ ap (option_map task_meant) c.in-Some.is)
-    (g.F.Shelf.held c.args.shelf.now) c.in-Done.report.text c.in-Done.report.status c.in-Done.ensures.means.2 zero file checking
+    (g.F.Shelf.held c.args.shelf.now) c.in-Done.report.text c.in-Done.report.status c.in-Done.ensures.means.2 zero file depth width checking
+
+pub outcome_of-requires-clause-in_range : goal.outcome_of-requires-clause-in_range
+outcome_of-requires-clause-in_range g c =
+    command_in_range c.in-Some.command (map string_bytes c.args.words.now) (sym (ap (option_map task_meant) c.in-Some.is) ∙ c.parse_words.ensures)
 
 pub returns-in-Ok-clause-complete_refused : goal.returns-in-Ok-clause-complete_refused
 returns-in-Ok-clause-complete_refused g c = λ q. sound_not_faulty c.sound_files_have_no_fault.ensures.first (task_of c.args.words.now)
@@ -55,3 +62,12 @@ pub returns-in-Done-clause-complete_refused : goal.returns-in-Done-clause-comple
 returns-in-Done-clause-complete_refused g c = λ q. sound_not_faulty c.sound_files_have_no_fault.ensures.first (task_of c.args.words.now)
     (task_meant c.in-Some.command) (sym c.parse_words.ensures ∙ ap (option_map task_meant) c.in-Some.is)
     (g.F.Shelf.held c.args.shelf.now) c.in-Done.ensures.means.1 ((6 ≡ 3) ⊎ (6 ≡ 7))
+
+pub returns-in-SecondRefused-clause-complete_refused : goal.returns-in-SecondRefused-clause-complete_refused
+returns-in-SecondRefused-clause-complete_refused g c = λ q. sound_not_faulty c.sound_files_have_no_fault.ensures.first (task_of c.args.words.now)
+    (task_meant c.in-Some.command) (sym c.parse_words.ensures ∙ ap (option_map task_meant) c.in-Some.is)
+    (g.F.Shelf.held c.args.shelf.now) c.in-SecondRefused.ensures.means.4 ((8 ≡ 3) ⊎ (8 ≡ 7))
+
+pub returns-in-SecondRefused-clause-complete_second_refused : goal.returns-in-SecondRefused-clause-complete_second_refused
+returns-in-SecondRefused-clause-complete_second_refused g c = λ q.
+    second_refused (task_of c.args.words.now) (g.F.Shelf.held c.args.shelf.now) ((8 ≡ 8) ⊎ (8 ≡ 7)) (inl refl)

@@ -1,0 +1,6 @@
+mod Substituting
+mod LevelKinds
+mod PlaceKinds
+mod ClosureKinds
+mod Clear
+mod Coded

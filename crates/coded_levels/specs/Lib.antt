@@ -1,0 +1,2 @@
+pub mod CodableTypes
+pub mod Laws

@@ -1,0 +1,4 @@
+pub mod Dimacs
+pub mod DimacsReading
+pub mod Laws
+pub mod SolverTexts

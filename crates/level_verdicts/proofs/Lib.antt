@@ -1,0 +1,10 @@
+mod Unique
+mod StateLevels
+mod Valid
+mod Safe
+mod StateTests
+mod Found
+mod Listed
+mod Searching
+mod Asked
+mod Samples

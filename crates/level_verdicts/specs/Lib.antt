@@ -1,0 +1,5 @@
+pub mod Verdicts
+pub mod Laws
+pub mod Safety
+pub mod Steps
+pub mod Samples

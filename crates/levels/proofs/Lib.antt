@@ -1,0 +1,9 @@
+pub mod PlaceLaws
+pub mod Adding
+pub mod Asked
+pub mod Lists
+pub mod Counting
+pub mod Stepwise
+pub mod Built
+pub mod Faults
+pub mod Scopes

@@ -1,0 +1,5 @@
+pub mod LevelFaults
+pub mod LevelQuestions
+pub mod Levels
+pub mod Rising
+pub mod Steps

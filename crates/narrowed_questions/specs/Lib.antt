@@ -1,0 +1,2 @@
+pub mod NarrowedQuestions
+pub mod StateQuestions

@@ -1,0 +1,4 @@
+pub mod SatTasks
+pub mod SatAnswers
+pub mod SatTellings
+pub mod SatOutcomes

@@ -1,0 +1,58 @@
+//! What the words of the command line ask for. Main function: `parse_words`. It touches nothing.
+
+ghost use Rattle.std.specs.Prelude.{◌≡◌, ◌∷◌, [], option_map};
+ghost use Rattle.sat_tool.specs.SatTasks.{asked, task_asked, names_file};
+ghost use Rattle.sat_tool.specs.SatTellings.{task_of_words};
+
+/// The file that is read, and the file that a trace is written to, if the words ask for one.
+#[derive(Clone, Copy, Debug)]
+pub struct Task<'a> {
+    pub file: &'a str,
+    pub trace: Option<&'a str>,
+}
+
+/// What the words ask for, None exactly where they ask for nothing.
+pub fn parse_words(words: &[String]) -> Option<Task<'_>>
+    ensures { option_map task_of_words result ≡ asked words.now }
+{
+    match words {
+        [file] => without_trace(file.as_str()),
+        [file, option, out] => with_trace(file.as_str(), option.as_str(), out.as_str()),
+        _ => None,
+    }
+}
+
+/// The task of a file alone.
+fn without_trace(file: &str) -> Option<Task<'_>>
+    ensures { option_map task_of_words result ≡ task_asked (file.now ∷ []) }
+{
+    if names_file(file) {
+        Some(Task { file, trace: None })
+    } else {
+        None
+    }
+}
+
+/// The task of a file with a trace.
+fn with_trace<'a>(file: &'a str, option: &str, out: &'a str) -> Option<Task<'a>>
+    ensures { option_map task_of_words result ≡ task_asked (file.now ∷ option.now ∷ out.now ∷ []) }
+{
+    if names_file(file) && option == "--trace" && names_file(out) {
+        Some(Task {
+            file,
+            trace: Some(out),
+        })
+    } else {
+        None
+    }
+}
+
+/// Whether a word names a file: it is not empty and doesn't begin with `-`.
+fn names_file(word: &str) -> bool
+    ensures { result ≡ names_file word.now }
+{
+    match word.as_bytes() {
+        [] => false,
+        [first, ..] => *first != b'-',
+    }
+}
