@@ -262,7 +262,7 @@ fn wide_system(alloc: Global, count: u32) -> Result<Component, NoMemory> {
         put_port(alloc, &mut ports, PortType::Bool)?;
         all = Formula::both(alloc, all, read(port))?;
     }
-    let contracts = contract(alloc, Formula::True, all, 2 * count)?;
+    let contracts = contract(alloc, Formula::True, all, count.wrapping_mul(2))?;
     let subs = one_sub(alloc)?;
     component(alloc, ports, contracts, subs, Wires::new(alloc))
 }

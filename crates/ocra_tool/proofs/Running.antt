@@ -7,7 +7,7 @@ use Rattle.ocra_tool.specs.Answers.{OfFile, OfFiles, IfHeld}
 use Rattle.ocra_tool.specs.Files.{IsSpecification}
 use Rattle.ocra_tool.specs.Laws.{SoundHasNoFault, SoundHasNoSecondFault}
 use Rattle.ocra_tool.specs.Tasks.{SecondFault, LassoBreak, first_file, second_file, second_bytes, IfBoth, IsSound, IsFaultFor, HasFaultFor, AreSound}
-use Rattle.ocra_tool.specs.Tasks.{IsSecondFaultFor, HasSecondFaultFor, IsAnswerTo}
+use Rattle.ocra_tool.specs.Tasks.{IsSecondFaultFor, HasSecondFaultFor, IsStatusOf, IsAnswerTo}
 use Rattle.ocra_tool.specs.Words.{Task, CheckFile, ReplayLasso}
 
 first_sound : (t : Task) (b s : List ℕ) → AreSound t b s → IsSound t b
@@ -96,6 +96,16 @@ pub front_of_answer : (task : Option Task) (t : Task) → task ≡ Some t → (h
     → IfSome task (λ u. (x : List ℕ) × (n : ℕ) × P x × IfHeld u held (λ b s. IsAnswerTo u b s x n))
 front_of_answer task t is held text ended P front has =
     subst (λ o. IfSome o (λ u. (x : List ℕ) × (n : ℕ) × P x × IfHeld u held (λ b s. IsAnswerTo u b s x n))) (sym is) (text, ended, front, has)
+
+-- The whole that was answered.
+pub whole_answer : (task : Option Task) (t : Task) → task ≡ Some t → (held : List ℕ → Option (List ℕ)) (text : List ℕ) (ended : ℕ)
+    (P : List ℕ → Type 0) → P text → IsStatusOf t ended → IfSome (held (first_file t)) (IsSound t)
+    → IfHeld t held (λ b s. IsAnswerTo t b s text ended)
+    → IfSome task (λ u. IsStatusOf u ended × (x : List ℕ) × P x × IfSome (held (first_file u)) (IsSound u)
+    × IfHeld u held (λ b s. IsAnswerTo u b s x ended))
+whole_answer task t is held text ended P whole status sound has =
+    subst (λ o. IfSome o (λ u. IsStatusOf u ended × (x : List ℕ) × P x × IfSome (held (first_file u)) (IsSound u)
+    × IfHeld u held (λ b s. IsAnswerTo u b s x ended))) (sym is) (status, text, whole, sound, has)
 
 -- A check that ends with 0.
 

@@ -1,13 +1,14 @@
 use Rattle.std.proofs.Common.{sym, ap, ◌∙◌, ◌≡◌, ◌⊎◌, ℕ, List, subst, map, string_bytes, refl}
 use Rattle.std.proofs.Math.Logic.{inl}
 use Rattle.std.specs.Option.{option_map}
+use Rattle.std.specs.Io.KnownBytes.{Appends}
 use Rattle.oss_io.specs.Outside.{AppendsFront}
 use Rattle.ocra_tool.specs.Commands.{task_meant}
 use Rattle.ocra_tool.specs.Tasks.{IsStatusOf}
 use Rattle.ocra_tool.specs.Words.{Task, task_of}
 use Rattle.ocra_tool.proofs.Ranges.{command_in_range}
 use Rattle.ocra_tool.proofs.Running.{sound_not_faulty, faulty_not_sound, faulty_not_second, answered_not_second, second_not_sound}
-use Rattle.ocra_tool.proofs.Running.{second_refused, front_of_answer, safe_check}
+use Rattle.ocra_tool.proofs.Running.{second_refused, front_of_answer, whole_answer, safe_check}
 use Rattle.ocra_tool.proofs.top.run.Goals as goal
 
 pub returns-in-Refused-clause-complete_sound : goal.returns-in-Refused-clause-complete_sound
@@ -71,3 +72,14 @@ returns-in-SecondRefused-clause-complete_refused g c = λ q. sound_not_faulty c.
 pub returns-in-SecondRefused-clause-complete_second_refused : goal.returns-in-SecondRefused-clause-complete_second_refused
 returns-in-SecondRefused-clause-complete_second_refused g c = λ q.
     second_refused (task_of c.args.words.now) (g.F.Shelf.held c.args.shelf.now) ((8 ≡ 8) ⊎ (8 ≡ 7)) (inl refl)
+
+pub returns-in-Ok-clause-done : goal.returns-in-Ok-clause-done
+returns-in-Ok-clause-done g c = λ done.
+    whole_answer (task_of c.args.words.now) (task_meant c.in-Some.command) (sym c.parse_words.ensures ∙ ap (option_map task_meant) c.in-Some.is)
+    (g.F.Shelf.held c.args.shelf.now) c.in-Done.report.text c.in-Done.report.status
+    (λ (x : List ℕ). Appends (g.O.Sink.taken c.args.out.now) (g.O.Sink.taken c.write_all.new.sink) x)
+    (subst (λ (x : List ℕ). Appends (g.O.Sink.taken c.args.out.now) (g.O.Sink.taken c.write_all.new.sink) x) c.as_slice.ensures c.in-Ok.ensures.whole)
+    c.in-Done.ensures.means.0 c.in-Done.ensures.means.1 c.in-Done.ensures.means.2
+
+pub returns-in-Done-clause-complete_sound : goal.returns-in-Done-clause-complete_sound
+returns-in-Done-clause-complete_sound g c = λ q r. absurd (r c.in-Err.ensures.cause.failed)
