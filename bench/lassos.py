@@ -12,14 +12,14 @@ import sys
 import time
 
 
-def counter(claim):
-    """A counter from 0 to 255, and a number that it is said never to show."""
+def counter(most):
+    """A counter from 0 on that is said never to show its greatest number. It does after so many steps."""
     return f"""COMPONENT S system
   INTERFACE
-    OUTPUT PORT x: 0..255;
+    OUTPUT PORT x: 0..{most};
     CONTRACT c
       assume: true;
-      guarantee: always (x != {claim});
+      guarantee: always (x != {most});
   REFINEMENT
     SUB g: Gen;
     CONNECTION x := g.x;
@@ -27,10 +27,10 @@ def counter(claim):
 
 COMPONENT Gen
   INTERFACE
-    OUTPUT PORT x: 0..255;
+    OUTPUT PORT x: 0..{most};
     CONTRACT step
       assume: true;
-      guarantee: x = 0 and always (x < 255 implies next(x) = x + 1);
+      guarantee: x = 0 and always (x < {most} implies next(x) = x + 1);
 """
 
 

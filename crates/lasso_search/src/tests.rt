@@ -1,9 +1,13 @@
 //! The search on questions about p until q that are worked by hand, with ample memory.
 
-ghost use Rattle.std.specs.Prelude.{◌≡◌, [], ◌∷◌, IfOk};
+ghost use Rattle.std.specs.Prelude.{◌≡◌, [], ◌∷◌, false, All, IfOk};
 ghost use Rattle.port_types.specs.declared.types.PortType.TheVariants as kind;
 ghost use Rattle.typed_ltl.specs.Formulas.{meaning};
 ghost use Rattle.typed_ltl.specs.Formulas as logic;
+ghost use Rattle.core_ltl.specs.CoreFormulas.{core_form};
+ghost use Rattle.state_coding.specs.Codes.{IsCodable};
+ghost use Rattle.state_coding.specs.Reads.{ReadsPorts};
+ghost use Rattle.tableau.specs.Samples.{sole_atoms};
 
 use super::shortest;
 use core_ltl::{Closure, ClosureStop, NodeId, Question, SignedNode};
@@ -40,20 +44,28 @@ fn p_until_q(alloc: Global) -> Result<Formula, NoMemory>
     Formula::until(alloc, port(0), port(1))
 }
 
-/// The tableau of p until q, and the node of that.
+/// The tableau of a formula alone, and the node of that.
 #[derive(Drop)]
 struct Asked {
     tableau: Tableau,
     node: NodeId,
 }
 
+fn asked_of(alloc: Global, f: &Formula, ports: &Ports) -> Result<Asked, ClosureStop>
+    requires ports { All IsCodable ports.now }
+    requires atoms { All (ReadsPorts ports.now) (sole_atoms (core_form (meaning f.now))) }
+{
+    let mut closure = Closure::new(alloc);
+    let node = closure.desugar_within(alloc, f, 1024)?;
+    let tableau = Tableau::new(alloc, &closure, ports)?;
+    Ok(Asked { tableau, node })
+}
+
 fn until_asked(alloc: Global) -> Result<Asked, ClosureStop> {
     let ports = two_booleans(alloc)?;
     let f = p_until_q(alloc)?;
-    let mut closure = Closure::new(alloc);
-    let node = closure.desugar_within(alloc, &f, 1024)?;
-    let tableau = Tableau::new(alloc, &closure, &ports)?;
-    Ok(Asked { tableau, node })
+    let asked = asked_of(alloc, &f, &ports)?;
+    Ok(asked)
 }
 
 /// Two signs of one node.
