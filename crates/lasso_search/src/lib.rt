@@ -10,8 +10,6 @@ mod least;
 mod paths;
 mod search;
 mod signs;
-#[cfg(test)]
-mod tests;
 
 pub use laws::{answers_are_one, breaking_lassos};
 pub use search::shortest;
