@@ -6,7 +6,6 @@ use Rattle.typed_ltl.specs.Traces.{Assignment, Trace}
 use Rattle.typed_ltl.specs.Truth.{Holds, number_value, choice_name, proposition_truth}
 use Rattle.spec_model.specs.Expressions.{IsState, IsStateNumber, IsStateChoice, IsStateTest}
 use Rattle.connections.specs.Substitution.{state_truth, next_number, next_choice, next_test, next_formula}
-use Rattle.connections.specs.Laws.{StateTruthDecides}
 use Rattle.connections.proofs.Tells.{Tells, tells_not, tells_and, tells_or, tells_implies, tells_iff}
 
 -- a state expression reads one valuation alone
@@ -52,9 +51,6 @@ state_tells w i (form.Releases f g) s = absurd s
 state_tells w i (form.Future f) s = absurd s
 state_tells w i (form.Always f) s = absurd s
 state_tells w i (form.Never f) s = absurd s
-
-pub state_truth_decides : StateTruthDecides
-state_truth_decides w f i s = state_tells w i f s
 
 -- the same expression in the next valuation
 

@@ -1,18 +1,14 @@
 -- Laws of substitution: what holds on every trace whose connections hold.
-use Rattle.std.specs.Prelude.{◌≡◌, ℕ, ◌<◌, ◌↔◌, true, Option, length}
+use Rattle.std.specs.Prelude.{◌≡◌, ℕ, ◌<◌, ◌↔◌, Option, length}
 use Rattle.oss_base.specs.declared.ids.ComponentId.{ComponentId}
 use Rattle.oss_base.specs.declared.ids.SubId.{SubId}
 use Rattle.typed_ltl.specs.Formulas.{Ltl}
 use Rattle.typed_ltl.specs.Traces.{Trace}
 use Rattle.typed_ltl.specs.Truth.{Holds}
 use Rattle.spec_model.specs.declared.spec.Spec.{Spec}
-use Rattle.spec_model.specs.Expressions.{IsState, ReadsBelow}
+use Rattle.spec_model.specs.Expressions.{ReadsBelow}
 use Rattle.spec_model.specs.Architecture.{IsWellFormed, ports_at}
-use Rattle.connections.specs.Substitution.{substituted, readings, port_value, state_truth}
-
--- The truth of a state formula at a position is decided by the valuation there.
-abbrev pub StateTruthDecides : Type 0
-StateTruthDecides = (w : Trace) (f : Ltl) (i : ℕ) → IsState f → Holds w f i ↔ (state_truth (w i) f ≡ true)
+use Rattle.connections.specs.Substitution.{substituted, readings, port_value}
 
 -- The connections of a component hold: the trace gives the ports of the component itself, or of one of
 -- its subcomponents, the values of what they stand for on a trace of the free ports.

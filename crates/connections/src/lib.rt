@@ -18,6 +18,6 @@ mod tests;
 
 pub use contracts::contracts_at;
 pub use driving::{Driver, Drivers, port_drivers};
-pub use laws::{state_truth_decides, substitution_keeps_truth};
+pub use laws::substitution_keeps_truth;
 pub use sizes::{size, size_by};
 pub use substituting::{LevelFormulas, Part, Parts, substitute, substitute_by};

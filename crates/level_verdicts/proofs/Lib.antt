@@ -7,4 +7,3 @@ mod Found
 mod Listed
 mod Searching
 mod Asked
-mod Samples

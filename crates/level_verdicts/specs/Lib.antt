@@ -2,4 +2,3 @@ pub mod Verdicts
 pub mod Laws
 pub mod Safety
 pub mod Steps
-pub mod Samples

@@ -5,8 +5,6 @@
 mod deciding;
 mod laws;
 mod states;
-#[cfg(test)]
-mod tests;
 
 pub use deciding::verdicts;
 pub use laws::{proved_is_valid, proved_systems_are_safe, verdicts_are_unique};

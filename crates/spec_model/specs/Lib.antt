@@ -2,7 +2,6 @@ pub mod Expressions
 pub mod Architecture
 pub mod FreeRows
 pub mod TargetKeys
-pub mod Propositional
 pub mod Meanings
 pub mod Laws
 pub mod FreePlaces

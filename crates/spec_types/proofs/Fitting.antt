@@ -26,7 +26,8 @@ use Rattle.spec_types.specs.TypeFaults.{admits_source}
 use Rattle.spec_types.specs.TreeComponents.{free_number}
 use Rattle.spec_types.specs.Walks.{Placed, Interface, interface, placed_at, find_port, Refinement, component_ports, PlacedInSub, placed_in}
 use Rattle.spec_types.specs.Walks.{placed_in_sub, find_sub_port, same_direction, free_port_read, free_sub_port, connection_reading_by, directed_kind, kind_by}
-use Rattle.spec_types.specs.Fitting.{kind_in_interface, kind_of_place, kind_in, admits_kind, AreFitting, IsFitting, is_same_port, find_if_there, IsPortAt, IsPortRead}
+use Rattle.spec_types.specs.Fitting.{kind_in_interface, kind_of_place, kind_in, admits_kind, AreFitting, IsFitting, is_same_port}
+use Rattle.spec_types.specs.Fitting.{find_if_there, IsPortAt, IsPortRead}
 use Rattle.spec_types.specs.Fitting.{placed_port, found_target, wants_input, found_under, found_source, reads_input}
 
 -- what is kept

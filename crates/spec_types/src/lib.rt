@@ -16,8 +16,6 @@ mod operators;
 mod port_places;
 mod ports;
 mod scope;
-#[cfg(test)]
-mod tests;
 mod typed;
 mod walk;
 

@@ -32,7 +32,8 @@ use Rattle.tableau.specs.Copies.{LayerLits, member_literal, member_coding, next_
 use Rattle.tableau.specs.Parts.{HasPart, AgreesWith, EveryStateExtends}
 use Rattle.tableau.proofs.Places.{has_place, IsNoUntil, no_until, older_literal, last_literal, members_more, member_value}
 use Rattle.tableau.proofs.UntilLaws.{pair_reads, until_fits}
-use Rattle.tableau.proofs.MemberSteps.{IsBefore, node_before, not_before, next_before, and_before, until_before, known_member, IsRight, MemberHolds, member_right}
+use Rattle.tableau.proofs.MemberSteps.{IsBefore, node_before, not_before, next_before, and_before, until_before}
+use Rattle.tableau.proofs.MemberSteps.{known_member, IsRight, MemberHolds, member_right}
 
 -- ---- more variables change nothing
 

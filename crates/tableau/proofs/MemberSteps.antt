@@ -186,7 +186,8 @@ literal_value : (model : List Bool) (t : ClosureOverPorts) (layer : LayerLits) (
     → k < length layer.members → lit_holds model (member_literal (with_member layer lit) k) ≡ lit_holds model (member_literal layer k)
 literal_value model t layer n k lit h = ap (lit_holds model) (older_literal layer lit k h)
 
-last_value : (model : List Bool) (layer : LayerLits) (lit : Lit) → lit_holds model (member_literal (with_member layer lit) (length layer.members)) ≡ lit_holds model lit
+last_value : (model : List Bool) (layer : LayerLits) (lit : Lit)
+    → lit_holds model (member_literal (with_member layer lit) (length layer.members)) ≡ lit_holds model lit
 last_value model layer lit = ap (lit_holds model) (last_literal layer lit)
 
 right_cases : (model : List Bool) (t : ClosureOverPorts) (layer : LayerLits) (n : ℕ) (x : Node) → MemberHolds model t layer n x
