@@ -136,7 +136,7 @@ pub until_begins : (n m v w k : ℕ) (older mid newer : List (List Lit)) (a b na
     → newer ≡ mid ++ take k ((nu ∷ b ∷ a ∷ []) ∷ (nu ∷ b ∷ literal w ∷ []) ∷ (literal v ∷ na ∷ nx ∷ []) ∷ []) → IsConservative n older m newer
 until_begins n m v w k older mid newer a b na nu nx begun en =
     rw (begun.vars, en, begun.clauses, begun.not_until, begun.not_left, begun.not_next, begun.second, begun.first)
-        (part_grows n k older a b begun.known_left begun.known_right)
+    (part_grows n k older a b begun.known_left begun.known_right)
 
 pub until_ends : (n m v w : ℕ) (older mid then newer : List (List Lit)) (a b na nb nu nx : Lit)
     → IsUntilBegun n m v w older mid a b na nu nx → nb ≡ opposite b
