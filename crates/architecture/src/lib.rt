@@ -8,8 +8,6 @@ mod items;
 mod laws;
 mod numbers;
 mod resolving;
-#[cfg(test)]
-mod tests;
 mod text_places;
 
 pub use laws::{

@@ -5,8 +5,6 @@
 
 mod laws;
 mod name;
-#[cfg(test)]
-mod tests;
 
 pub use laws::contracts_compose;
 pub use name::{ObligationName, component_name, contract_name, sub_name};

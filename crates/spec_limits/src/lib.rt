@@ -4,7 +4,5 @@
 
 mod instances;
 mod limits;
-#[cfg(test)]
-mod tests;
 
 pub use limits::first_past_limit;
