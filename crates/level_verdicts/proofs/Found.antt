@@ -1,5 +1,5 @@
 -- What a search over the ports of a level finds, and what its verdict is over all free ports.
-use Rattle.std.proofs.Common.{◌≡◌, ◌↔◌, ℕ, Bool, true, false, List, All, Option, Some, None, length, refl, sym, ap, ◌∙◌, subst}
+use Rattle.std.proofs.Common.{◌≡◌, ◌↔◌, ℕ, Bool, true, false, List, Option, Some, None, refl, subst}
 use Rattle.std.proofs.lemmas.Bool.{false≢true}
 use Rattle.port_types.specs.declared.types.PortType.{PortType}
 use Rattle.oss_base.specs.declared.ids.ComponentId.{ComponentId}

@@ -2,7 +2,7 @@ mod Unique
 mod StateLevels
 mod Valid
 mod Safe
-mod StateTests
+mod StateClosures
 mod Found
 mod Listed
 mod Searching

@@ -1,5 +1,5 @@
 -- Proved questions are valid, and valid levels compose.
-use Rattle.std.proofs.Common.{◌≡◌, inl, inr, ℕ, zero, suc, ◌≤◌, List, [], ◌∷◌, Some, slice_get, ap, subst, refl}
+use Rattle.std.proofs.Common.{◌≡◌, inl, inr, ℕ, zero, suc, ◌≤◌, List, [], ◌∷◌, Some, slice_get, subst, refl}
 use Rattle.oss_base.specs.declared.ids.SubId.{SubId}
 use Rattle.typed_ltl.specs.Formulas.{Ltl}
 use Rattle.typed_ltl.specs.declared.lasso.Verdict.{Verdict}

@@ -1,7 +1,7 @@
 -- The solver of a search has a model, at first and after each question.
-use Rattle.std.proofs.Common.{◌≡◌, List, [], ◌++◌, Bool, true, sym, ap, ◌∙◌, refl}
+use Rattle.std.proofs.Common.{◌≡◌, List, [], ◌++◌, sym, ap, ◌∙◌}
 use Rattle.cnf.specs.declared.lit.Lit.{Lit}
-use Rattle.cnf.specs.Clauses.{clauses_hold, IsModel, IsConservative}
+use Rattle.cnf.specs.Clauses.{clauses_hold, IsConservative}
 use Rattle.tableau.specs.TableauStates.{ClosureOverPorts}
 use Rattle.levels.specs.declared.level.Level.{Level}
 use Rattle.level_verdicts.specs.declared.deciding.LevelSearch.{LevelSearch}

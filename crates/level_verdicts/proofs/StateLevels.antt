@@ -1,5 +1,5 @@
 -- The questions of a level of state formulas are of state formulas, which read the free ports.
-use Rattle.std.proofs.Common.{◌≡◌, ◌⊎◌, inl, inr, ℕ, Bool, true, false, List, [], ◌∷◌, ◌++◌, map, filter, length}
+use Rattle.std.proofs.Common.{◌≡◌, inl, inr, ℕ, Bool, true, false, List, [], ◌∷◌, ◌++◌, filter, length}
 use Rattle.std.proofs.Common.{Some, None, get_or, slice_get, All}
 use Rattle.std.proofs.Common.{sym, subst}
 use Rattle.std.proofs.lemmas.List.{length-map}

@@ -15,7 +15,7 @@ use Rattle.first_lasso.proofs.FirstLassos.{first_lasso_unique}
 use Rattle.levels.specs.Levels.{level_meaning}
 use Rattle.levels.specs.LevelQuestions.{entailment, met_assumption}
 use Rattle.narrowed_questions.specs.NarrowedQuestions.{HaveTruths}
-use Rattle.level_verdicts.specs.Verdicts.{IsVerdict, AreAssumesVerdicts, AreVerdicts}
+use Rattle.level_verdicts.specs.Verdicts.{IsVerdict, AreAssumesVerdicts}
 use Rattle.level_verdicts.specs.Laws.{VerdictsAreUnique}
 
 -- a first lasso is one that breaks the question

@@ -1,5 +1,5 @@
 -- A question of state formulas that no lasso of a few states breaks is valid.
-use Rattle.std.proofs.Common.{◌≡◌, ℕ, ◌<◌, length, arith}
+use Rattle.std.proofs.Common.{◌≡◌, ◌<◌, length, arith}
 use Rattle.spec_model.specs.FreeTypes.{free_types}
 use Rattle.narrowed_questions.specs.StateQuestions.{OneStateBreaks}
 use Rattle.level_verdicts.specs.Laws.{ProvedIsValid}

@@ -3,23 +3,25 @@ use Rattle.std.specs.Prelude.{◌≡◌, ℕ, ◌↔◌, Bool, true, false, not,
 use Rattle.std.specs.List.{list_all}
 use Rattle.port_types.specs.declared.types.PortType.{PortType}
 use Rattle.cnf.specs.Clauses.{IsModel}
-use Rattle.typed_ltl.specs.Formulas.{Number, Choice, Proposition, Ltl, meaning}
+use Rattle.typed_ltl.specs.Formulas.{Number, Choice, Proposition, Ltl, proposition_of}
 use Rattle.typed_ltl.specs.Formulas as form
+use Rattle.typed_ltl.specs.declared.atom.Atom.{Atom}
 use Rattle.typed_ltl.specs.declared.lasso.Lasso.{Lasso}
 use Rattle.typed_ltl.specs.declared.lasso.Verdict.{Verdict}
 use Rattle.typed_ltl.specs.declared.lasso.Verdict.TheVariants as verdict
 use Rattle.first_lasso.specs.UsedPorts.{IsWidened}
+use Rattle.core_ltl.specs.declared.node.Node.{Node}
+use Rattle.core_ltl.specs.declared.node.Node.TheVariants as node
 use Rattle.core_ltl.specs.declared.question.SignedNode.{SignedNode}
+use Rattle.core_ltl.specs.Nodes.{Listing}
 use Rattle.spec_model.specs.declared.spec.Spec.{Spec}
 use Rattle.spec_model.specs.declared.item.Item.{Item}
-use Rattle.connections.specs.declared.substituting.LevelFormulas.{LevelFormulas}
-use Rattle.connections.specs.declared.substituting.Part.{Part}
 use Rattle.levels.specs.declared.level.Level.{Level}
 use Rattle.narrowed_questions.specs.NarrowedQuestions.{IsKnownOverFree}
 use Rattle.level_verdicts.specs.declared.deciding.LevelSearch.{LevelSearch}
 use Rattle.level_verdicts.specs.Verdicts.{IsStateLevel, IsVerdict}
 
--- Tests of state formulas
+-- Tests of closures of state formulas
 
 abbrev pub is_state_number : Number → Bool
 is_state_number (form.Literal z) = true
@@ -38,29 +40,21 @@ is_state_test (form.Equals a b) = is_state_number a && is_state_number b
 is_state_test (form.AtMost a b) = is_state_number a && is_state_number b
 is_state_test (form.SameName a b) = is_state_choice a && is_state_choice b
 
-abbrev pub is_state_formula : Ltl → Bool
-is_state_formula form.True = true
-is_state_formula form.False = true
-is_state_formula (form.Atomic a) = is_state_test a
-is_state_formula (form.Not f) = is_state_formula f
-is_state_formula (form.And f g) = is_state_formula f && is_state_formula g
-is_state_formula (form.Or f g) = is_state_formula f && is_state_formula g
-is_state_formula (form.Implies f g) = is_state_formula f && is_state_formula g
-is_state_formula (form.Iff f g) = is_state_formula f && is_state_formula g
-is_state_formula (form.Then f) = false
-is_state_formula (form.Until f g) = false
-is_state_formula (form.Releases f g) = false
-is_state_formula (form.Future f) = false
-is_state_formula (form.Always f) = false
-is_state_formula (form.Never f) = false
+abbrev pub has_state_test : Atom → Bool
+has_state_test atom = is_state_test (proposition_of atom)
 
-abbrev pub has_state_formulas : Part → Bool
-has_state_formulas part = is_state_formula (meaning part.assume) && is_state_formula (meaning part.guarantee)
+-- the node is no temporal operator
+abbrev pub is_state_node : Node → Bool
+is_state_node node.True = true
+is_state_node (node.Atom a) = true
+is_state_node (node.Not k) = true
+is_state_node (node.And k l) = true
+is_state_node (node.Next k) = false
+is_state_node (node.Until k l) = false
 
-abbrev pub are_state_formulas : LevelFormulas → Bool
-are_state_formulas formulas =
-    (is_state_formula (meaning formulas.assume) && is_state_formula (meaning formulas.guarantee))
-    && list_all has_state_formulas formulas.parts
+-- no node is a temporal operator, and no atom reads a next valuation
+abbrev pub is_state_closure : Listing → Bool
+is_state_closure closure = list_all is_state_node closure.nodes && list_all has_state_test closure.atoms
 
 -- Searches
 

@@ -1,12 +1,11 @@
 //! The verdicts of a level: `verdicts`. One tableau and one solver serve all its questions. May touch the allocator.
 
 ghost use Rattle.std.specs.Prelude.{◌≡◌, ◌≤◌, IfOk, OnOk, All, length, map};
-ghost use Rattle.oss_base.specs.Limits.{most_closure_members, most_level_size};
+ghost use Rattle.oss_base.specs.Limits.{most_closure_members};
 ghost use Rattle.typed_ltl.specs.Formulas.{proposition_of};
 ghost use Rattle.state_coding.specs.Codes.{IsCodable};
 ghost use Rattle.state_coding.specs.Reads.{ReadsPorts};
 ghost use Rattle.spec_model.specs.FreeTypes.{free_types};
-ghost use Rattle.connections.specs.Sizes.{level_size};
 ghost use Rattle.levels.specs.Levels.{IsLevel};
 ghost use Rattle.lasso_search.specs.TableauLassos.{IsQuestionOver};
 ghost use Rattle.level_verdicts.specs.Verdicts.{CanBeDecided, AreVerdicts};
@@ -103,7 +102,6 @@ pub fn verdicts(
     requires decidable { CanBeDecided spec.now }
     requires level { IsLevel spec.now item.now level.now }
     requires few { length level.now.closure.nodes ≤ most_closure_members }
-    requires size { level_size spec.now item.now ≤ most_level_size }
     requires deep { 1 ≤ depth }
     requires shallow { depth ≤ 32 }
     ensures verdicts { IfOk result (λ vs. AreVerdicts spec.now item.now depth vs) }
@@ -113,7 +111,7 @@ pub fn verdicts(
     coded_levels::questions_are_over_closures();
     narrowed_questions::questions_are_narrowed();
     narrowed_questions::narrowed_questions_are_known();
-    let is_state = is_state_level(alloc, spec, item)?;
+    let is_state = is_state_level(level);
     let mut search = search_of(alloc, level)?;
     let mut verdicts = Vec::new(alloc);
     let entails = level.entails()?;

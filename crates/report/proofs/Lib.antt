@@ -1,4 +1,3 @@
 pub mod AllAnswers
-mod Nothing
 pub mod SmallLevels
 pub mod Unique

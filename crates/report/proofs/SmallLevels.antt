@@ -1,9 +1,8 @@
--- Levels stand beside their items, and are within the limits where no level has a fault.
+-- Levels stand beside their items, and their closures are within the limit where no level has a fault.
 use Rattle.std.proofs.Common.{◌≡◌, ℕ, zero, suc, ◌<◌, ◌≤◌, List, [], ◌∷◌, length, get_or, None, slice_get, Some, refl, sym, ap, subst, arith}
-use Rattle.oss_base.specs.Limits.{most_closure_members, most_level_size}
+use Rattle.oss_base.specs.Limits.{most_closure_members}
 use Rattle.spec_model.specs.declared.spec.Spec.{Spec}
 use Rattle.spec_model.specs.declared.item.Item.{Item}
-use Rattle.connections.specs.Sizes.{level_size}
 use Rattle.levels.specs.declared.level.Level.{Level}
 use Rattle.levels.specs.Levels.{IsLevel, AreLevels}
 use Rattle.levels.specs.LevelFaults.{first_level_fault}
@@ -29,12 +28,7 @@ level_there spec items levels i item level h l e f =
     subst (λ (x : Item). IsLevel spec x level) (sym e)
     (subst (λ (y : Level). IsLevel spec (get_or items i item) y) (sym f) (level_at spec items levels i item level h l))
 
-pub record IsSmall (spec : Spec) (item : Item) (level : Level) : Type 0 where
-  pub few : length level.closure.nodes ≤ most_closure_members
-  pub size : level_size spec item ≤ most_level_size
-
-pub small_level : ClearLevelsAreSmall → ClosuresAreCounted → (spec : Spec) → (width : ℕ) × (first_level_fault width spec ≡ None)
-    → (n : ℕ) (item : Item) (level : Level) → slice_get spec.items n ≡ Some item → IsLevel spec item level → IsSmall spec item level
-small_level small counted spec clear n item level at is =
-    let s = small clear.0 spec n item clear.1 at in
-    record { few = rw (counted spec item level is) s.0; size = s.1 }
+pub few_members : ClearLevelsAreSmall → ClosuresAreCounted → (spec : Spec) → (width : ℕ) × (first_level_fault width spec ≡ None)
+    → (n : ℕ) (item : Item) (level : Level) → slice_get spec.items n ≡ Some item → IsLevel spec item level
+    → length level.closure.nodes ≤ most_closure_members
+few_members small counted spec clear n item level at is = rw (counted spec item level is) (small clear.0 spec n item clear.1 at).0

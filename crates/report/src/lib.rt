@@ -7,8 +7,6 @@ mod answers;
 mod check_text;
 mod judgement_text;
 mod laws;
-#[cfg(test)]
-mod tests;
 
 pub use answering::answer_levels;
 pub use answers::{Answer, Answers, status_of};

@@ -1,11 +1,11 @@
-use Rattle.std.proofs.Common.{◌≡◌, ◌+◌, ◌<◌, List, [], ◌∷◌, ◌++◌, length, drop, slice_get, sym, ap, ◌∙◌, subst, arith}
-use Rattle.typed_ltl.specs.Formulas.{Ltl}
+use Rattle.std.proofs.Common.{◌+◌, List, [], ◌∷◌, ◌++◌, drop, sym, ap, ◌∙◌, subst, arith}
 use Rattle.typed_ltl.specs.declared.lasso.Verdict.{Verdict}
 use Rattle.core_ltl.specs.Nodes.{members}
 use Rattle.levels.specs.Levels.{level_meaning}
 use Rattle.levels.specs.LevelQuestions.{entailment, met_assumption}
 use Rattle.level_verdicts.specs.Verdicts.{AreVerdicts}
 use Rattle.level_verdicts.proofs.Asked.{AskingLaws, IsKnownLevel, entailment_verdict, assumption_verdict, question_over}
+use Rattle.level_verdicts.proofs.StateClosures.{level_told}
 use Rattle.level_verdicts.proofs.Listed.{AreVerdictsBut, verdicts_begin, verdicts_more, verdicts_end, as_many_parts, part_there}
 use Rattle.level_verdicts.proofs.deciding.verdicts.Goals as goal
 
@@ -36,16 +36,16 @@ loop-j-init c =
       assumptions = c.questions_are_narrowed.ensures.assumptions;
       known = c.narrowed_questions_are_known.ensures;
     } in
-    let of : IsKnownLevel spec item level c.in_ok-is_state.is_state = record {
+    let of : IsKnownLevel spec item level c.is_state_level-is_state.result = record {
       reads = c.requires.decidable.reads;
       some = c.levels_can_be_coded.ensures.free spec item.component c.requires.decidable.types;
       is = c.requires.level;
-      state = c.in_ok-is_state.ensures;
+      state = level_told spec item level c.is_state_level-is_state.result c.requires.level c.is_state_level-is_state.ensures;
     } in (
       c.in_ok-entailed.ensures.search,
       verdicts_begin spec item c.args.depth c.push.new.self.items c.in_ok-entailed.entailed
           (c.in_ok-push.ensures.items ∙ ap (λ (vs : List Verdict). vs ++ c.in_ok-entailed.entailed ∷ []) c.new-verdicts.ensures.items)
-          (entailment_verdict laws spec item level c.in_ok-is_state.is_state c.args.depth c.in_ok-entailed.entailed of
+          (entailment_verdict laws spec item level c.is_state_level-is_state.result c.args.depth c.in_ok-entailed.entailed of
           (record { question = c.in_ok-entails.entails; told = c.in_ok-entailed.ensures.verdict })
           (c.in_ok-entails.ensures spec item c.requires.level)),
     )
@@ -72,18 +72,18 @@ loop-j-preserved c =
       assumptions = c.questions_are_narrowed.ensures.assumptions;
       known = c.narrowed_questions_are_known.ensures;
     } in
-    let of : IsKnownLevel spec item level c.in_ok-is_state.is_state = record {
+    let of : IsKnownLevel spec item level c.is_state_level-is_state.result = record {
       reads = c.requires.decidable.reads;
       some = c.levels_can_be_coded.ensures.free spec item.component c.requires.decidable.types;
       is = c.requires.level;
-      state = c.in_ok-is_state.ensures;
+      state = level_told spec item level c.is_state_level-is_state.result c.requires.level c.is_state_level-is_state.ensures;
     } in
     let at = part_there (members level.closure) level.places level.parts.items (level_meaning spec item).parts c.loop-j.j (c.requires.level).parts
     (omega (arith, c.loop-j-test.true, c.len-j-end.ensures)) in (
       c.in_ok-assumed.ensures.search,
       subst (AreVerdictsBut spec item c.args.depth (drop (c.loop-j.j + 1) (level_meaning spec item).parts)) (sym c.in_ok-push-2.ensures.items)
           (verdicts_more spec item c.args.depth c.loop-j.verdicts.items v c.loop-j.j at.0 at.1
-          (assumption_verdict laws spec item level c.in_ok-is_state.is_state c.args.depth v c.loop-j.j at.0 of
+          (assumption_verdict laws spec item level c.is_state_level-is_state.result c.args.depth v c.loop-j.j at.0 of
           (record { question = c.in_ok-assumes.assumes; told = c.in_ok-assumed.ensures.verdict }) at.1
           (c.in_ok-assumes.ensures spec item at.0 c.requires.level at.1))
           (c.loop-j.invariant).1),

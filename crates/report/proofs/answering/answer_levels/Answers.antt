@@ -2,7 +2,7 @@ use Rattle.std.proofs.Common.{◌≡◌, ◌<◌, length, Some, slice_get, refl}
 use Rattle.std.proofs.lemmas.Option.{slice_get_read}
 use Rattle.levels.specs.Levels.{IsLevel}
 use Rattle.report.proofs.AllAnswers.{levels_step}
-use Rattle.report.proofs.SmallLevels.{IsSmall, as_many, level_there, small_level}
+use Rattle.report.proofs.SmallLevels.{as_many, level_there, few_members}
 use Rattle.report.proofs.answering.answer_levels.Goals as goal
 
 pub bounds-as_slice-place : goal.bounds-as_slice-place
@@ -16,23 +16,17 @@ is_level c =
     level_there c.args.spec.now c.args.spec.now.items c.args.levels.now c.loop-place.place c.item-item.result c.index-as_slice-place.result
     c.requires.levels (rw same at c.loop-place-test.true) (rw same at c.item-item.is) (rw c.as_slice.ensures at c.index-as_slice-place.is)
 
-is_small : (c : goal.After-index-as_slice-place) → IsSmall c.args.spec.now c.item-item.result c.index-as_slice-place.result
-is_small c =
-    let same = c.as_slice-item-items.ensures in
-    let items = c.args.spec.now.items in
-    let at : slice_get items c.loop-place.place ≡ Some c.item-item.result =
-    slice_get_read items (length items) c.loop-place.place c.item-item.result refl (rw same at c.loop-place-test.true) (rw same at c.item-item.is) in
-    small_level c.clear_levels_are_small.ensures.sizes c.clear_levels_are_small.ensures.closures c.args.spec.now c.requires.clear c.loop-place.place
-    c.item-item.result c.index-as_slice-place.result at (is_level c)
-
 pub verdicts-requires-clause-level : goal.verdicts-requires-clause-level
 verdicts-requires-clause-level c = is_level c
 
 pub verdicts-requires-clause-few : goal.verdicts-requires-clause-few
-verdicts-requires-clause-few c = (is_small c).few
-
-pub verdicts-requires-clause-size : goal.verdicts-requires-clause-size
-verdicts-requires-clause-size c = (is_small c).size
+verdicts-requires-clause-few c =
+    let same = c.as_slice-item-items.ensures in
+    let items = c.args.spec.now.items in
+    let at : slice_get items c.loop-place.place ≡ Some c.item-item.result =
+    slice_get_read items (length items) c.loop-place.place c.item-item.result refl (rw same at c.loop-place-test.true) (rw same at c.item-item.is) in
+    few_members c.clear_levels_are_small.ensures.sizes c.clear_levels_are_small.ensures.closures c.args.spec.now c.requires.clear c.loop-place.place
+    c.item-item.result c.index-as_slice-place.result at (is_level c)
 
 pub loop-place-preserved : goal.loop-place-preserved
 loop-place-preserved c =
