@@ -6,6 +6,5 @@ pub mod Ranges
 pub mod Reading
 pub mod Replayed
 pub mod Running
-pub mod Saying
 pub mod Telling
 pub mod Valid

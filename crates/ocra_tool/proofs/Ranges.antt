@@ -4,7 +4,8 @@ use Rattle.std.proofs.Common.{◌≡◌, ℕ, zero, suc, ◌+◌, ◌<◌, ◌�
 use Rattle.ocra_tool.specs.declared.words.Command.{Command}
 use Rattle.ocra_tool.specs.declared.words.Command.TheVariants.{Check, Replay}
 use Rattle.ocra_tool.specs.Commands.{task_meant, IsInRange}
-use Rattle.ocra_tool.specs.Words.{Arguments, Task, CheckFile, ReplayLasso, arguments, with_operand, with_depth, with_width, is_operand, number_up_to}
+use Rattle.ocra_tool.specs.Words.{Arguments, Task, CheckFile, ReplayLasso, arguments, with_operand, with_depth, with_width, number_up_to}
+use Rattle.oss_io.specs.Operands.{is_operand}
 use Rattle.ocra_tool.specs.Words.{most_depth, most_width, check_with, replay_with, task_with, words_mean}
 use Rattle.ocra_tool.proofs.Numbers.{among}
 

@@ -1,7 +1,5 @@
 -- The lines that the program writes. Each ends by LF, the byte 10.
-use Rattle.std.specs.Prelude.{ℕ, ◌≤◌, List, ◌++◌, Option, codes, decimal}
-use Rattle.std.specs.Io.KnownBytes.{Appends}
-use Rattle.oss_io.specs.Outside.{Rose, AppendsFront}
+use Rattle.std.specs.Prelude.{ℕ, List, ◌++◌, codes, decimal}
 
 -- Where words mean no command.
 abbrev pub usage_line : List ℕ
@@ -27,9 +25,3 @@ write_fault_line = codes "write fault\n"
 -- Memory was short.
 abbrev pub no_memory_line : List ℕ
 no_memory_line = codes "want of memory\n"
-
--- A sink was handed this line: it took the whole, or a front of it where its count of faults rose.
-pub record Says (old new : Option (List ℕ)) (before now : ℕ) (line : List ℕ) : Type 0 where
-  pub front : AppendsFront old new line
-  pub whole : (Rose before now → ⊥) → Appends old new line
-  pub later : before ≤ now

@@ -4,10 +4,11 @@
 -- The first word is the name of the command. Behind it stand its operands and its options, in any order. The option
 -- `--depth` or `--width` takes the very next word, whatever it is, as its number. No other word that begins with `-`,
 -- nor an empty one, means anything.
-use Rattle.std.specs.Prelude.{◌==◌, if◌then◌else◌, ℕ, Bool, false, not, List, [], ◌∷◌, map, find, codes, decimal}
+use Rattle.std.specs.Prelude.{if◌then◌else◌, ℕ, List, [], ◌∷◌, map, find, codes, decimal}
 use Rattle.std.specs.Prelude.{String, bytes_eq, string_bytes, Option, Some, None, option_map, option_and_then}
 use Rattle.std.specs.List.{range_with_len}
 use Rattle.std.specs.declared.alloc.Global.{Global}
+use Rattle.oss_io.specs.Operands.{is_operand}
 
 -- What a command line asks for.
 pub data Task : Type 0 where
@@ -29,11 +30,6 @@ default_depth = 8
 
 abbrev pub default_width : ℕ
 default_width = 2
-
--- A word that stands for itself: it is not empty and does not begin with `-`.
-abbrev pub is_operand : List ℕ → Bool
-is_operand [] = false
-is_operand (byte ∷ bytes) = not (byte == 45)
 
 -- the number from 1 to `most` whose decimal digits, without leading zeros, the word is
 unfoldable pub number_up_to : ℕ → List ℕ → Option ℕ

@@ -4,10 +4,10 @@
 ghost use Rattle.std.specs.Prelude.{◌≡◌, ◌↔◌, ◌≤◌, ◌∷◌, ◌++◌, [], ℕ, List, Some, None, IsTrue, IfSome, IfNone};
 ghost use Rattle.std.specs.Prelude.{codes, decimal, map, length, string_bytes, option_map, option_and_then};
 ghost use Rattle.ocra_tool.specs.Given.{StepsTo, arguments_meant, operand_words, task_behind};
-ghost use Rattle.ocra_tool.specs.Words.{arguments, is_operand as stands_for_itself, number_up_to as number_of};
-ghost use Rattle.ocra_tool.specs.Words.{task_with};
+ghost use Rattle.ocra_tool.specs.Words.{arguments, number_up_to as number_of, task_with};
 
 use itoa::Buffer;
+use oss_io::is_operand;
 
 const MOST_DEPTH: u8 = 32;
 
@@ -156,16 +156,6 @@ fn counted(most: u8, words: &[String]) -> Option<(u8, &[String])>
     let (number, rest) = words.split_first()?;
     let number = number_up_to(most, number.as_str())?;
     Some((number, rest))
-}
-
-/// Whether a word stands for itself: it is not empty and doesn't begin with `-`.
-fn is_operand(word: &str) -> bool
-    ensures { result ≡ stands_for_itself word.now }
-{
-    match word.as_bytes() {
-        [] => false,
-        [first, ..] => *first != b'-',
-    }
 }
 
 /// Whether a word is this number in decimal digits, without leading zeros.

@@ -1,13 +1,14 @@
 //! The lines that the program writes: to `err` what went wrong, and the line of a fault of a file.
 
-ghost use Rattle.std.specs.Prelude.{◌≡◌, ◌++◌, IfOk};
+ghost use Rattle.std.specs.Prelude.{◌≡◌, IfOk};
+ghost use Rattle.oss_io.specs.Outside.{Says};
 ghost use Rattle.ocra_tool.specs.Outcomes.{fault_line_of};
-ghost use Rattle.ocra_tool.specs.Lines.{Says, lasso_break_line as line_of_break, no_memory_line, read_fault_line};
-ghost use Rattle.ocra_tool.specs.Lines.{usage_line, write_fault_line};
+ghost use Rattle.ocra_tool.specs.Lines.{lasso_break_line as line_of_break, no_memory_line, read_fault_line, usage_line};
+ghost use Rattle.ocra_tool.specs.Lines.{write_fault_line};
 
 use itoa::Buffer;
 use oss_base::Fault;
-use oss_io::{Failed, Sink, write_all};
+use oss_io::{Sink, say, say_two};
 use port_types::{NoMemory, Text};
 use std::alloc::Global;
 
@@ -41,23 +42,6 @@ pub fn say_no_memory<E: Sink>(err: &mut E)
     ensures { Says (E.taken err.old) (E.taken err.new) (E.faults err.old) (E.faults err.new) no_memory_line }
 {
     say(err, b"want of memory\n");
-}
-
-/// Writes a line. That a sink for such lines fails is told nowhere.
-pub fn say<E: Sink>(err: &mut E, line: &[u8])
-    ensures { Says (E.taken err.old) (E.taken err.new) (E.faults err.old) (E.faults err.new) line.now }
-{
-    let _ = write_all(err, line);
-}
-
-/// Writes a line that stands in two parts.
-fn say_two<E: Sink>(err: &mut E, first: &[u8], second: &[u8])
-    ensures { Says (E.taken err.old) (E.taken err.new) (E.faults err.old) (E.faults err.new) (first.now ++ second.now) }
-{
-    match write_all(err, first) {
-        Ok(()) => say(err, second),
-        Err(Failed) => {}
-    }
 }
 
 /// The line on a lasso file that breaks at this line.

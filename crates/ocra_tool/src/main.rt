@@ -4,7 +4,6 @@
 //! the standard output and the standard error.
 #![tactic(auto)]
 
-mod arguments;
 mod check;
 mod files;
 mod given;
@@ -17,7 +16,7 @@ mod tests;
 mod top;
 mod words;
 
-use oss_io::{ErrSink, FileShelf, StdSink};
+use oss_io::{ErrSink, FileShelf, StdSink, argument_words};
 use port_types::NoMemory;
 use std::process::ExitCode;
 pub use top::run;
@@ -25,7 +24,7 @@ pub use words::{Command, parse_words};
 
 /// Where the words can't be had for want of memory, the status is that of want of memory.
 fn main(rt: HostRuntime) -> ExitCode {
-    let status = match arguments::words(rt.alloc(), &rt) {
+    let status = match argument_words(rt.alloc(), &rt) {
         Ok(words) => run(
             rt.alloc(),
             words.as_slice(),

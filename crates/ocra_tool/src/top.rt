@@ -4,13 +4,13 @@
 ghost use Rattle.std.specs.Prelude.{◌≡◌, ◌≢◌, ◌≤◌, ◌↔◌, ◌⊎◌, List, ℕ, Some, None, IfSome};
 ghost use Rattle.std.specs.Io.KnownBytes.{Appends};
 ghost use Rattle.oss_base.specs.declared.fault.Fault.{Fault};
-ghost use Rattle.oss_io.specs.Outside.{AppendsFront, Rose};
+ghost use Rattle.oss_io.specs.Outside.{AppendsFront, Rose, Says};
 ghost use Rattle.spec_model.specs.declared.spec.Spec.{Spec};
 ghost use Rattle.obligations.specs.Systems.{IsSafe};
 ghost use Rattle.ocra_tool.specs.Answers.{IfHeld, IsQuiet, OfFile, OfFiles};
 ghost use Rattle.ocra_tool.specs.Commands.{IsInRange, task_meant};
 ghost use Rattle.ocra_tool.specs.Files.{IsSpecification};
-ghost use Rattle.ocra_tool.specs.Lines.{Says, no_memory_line, read_fault_line, usage_line, write_fault_line};
+ghost use Rattle.ocra_tool.specs.Lines.{no_memory_line, read_fault_line, usage_line, write_fault_line};
 ghost use Rattle.ocra_tool.specs.Outcomes.{MayBeUnread, Means, fault_line_of};
 ghost use Rattle.ocra_tool.specs.Statuses.{IsDone, IsStatus};
 ghost use Rattle.ocra_tool.specs.Tasks.{AreSound, IsSound, HasFaultFor, HasSecondFaultFor};
@@ -20,11 +20,11 @@ ghost use Rattle.ocra_tool.specs.Words.{CheckFile, task_of};
 
 use crate::check::check_file;
 use crate::laws::sound_files_have_no_fault;
-use crate::lines::{say, say_no_memory, say_read_fault, say_usage, say_write_fault};
+use crate::lines::{say_no_memory, say_read_fault, say_usage, say_write_fault};
 use crate::outcome::Outcome;
 use crate::replaying::replay_files;
 use crate::words::{Command, parse_words};
-use oss_io::{Failed, Shelf, Sink, write_all};
+use oss_io::{Failed, Shelf, Sink, say, write_all};
 use std::alloc::Global;
 
 /// Does what the words ask: reads from the shelf, writes the answer to `out` and a line on what went

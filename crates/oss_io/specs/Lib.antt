@@ -1,4 +1,5 @@
 pub mod MemorySink
+pub mod Operands
 pub mod Outside
 pub mod Real
 pub mod Shelves

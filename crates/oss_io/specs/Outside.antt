@@ -21,3 +21,9 @@ pub record Takes (n len : ℕ) : Type 0 where
 -- What was taken has grown by some front of these bytes.
 abbrev pub AppendsFront : Option (List ℕ) → Option (List ℕ) → List ℕ → Type 0
 AppendsFront old new bytes = (n : ℕ) × Appends old new (take n bytes)
+
+-- A sink was handed this line: it took the whole, or a front of it where its count of faults rose.
+pub record Says (old new : Option (List ℕ)) (before now : ℕ) (line : List ℕ) : Type 0 where
+  pub front : AppendsFront old new line
+  pub whole : (Rose before now → ⊥) → Appends old new line
+  pub later : before ≤ now

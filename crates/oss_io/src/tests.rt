@@ -195,3 +195,8 @@ fn real_streams_are_written(rt: HostRuntime) {
     assert!(rt; write_all(&mut out, b"standard output\n").is_ok());
     assert!(rt; write_all(&mut err, b"standard error\n").is_ok());
 }
+
+#[test]
+fn the_words_of_the_process_can_be_had(rt: HostRuntime) {
+    assert!(rt; argument_words(rt.alloc(), &rt).is_ok());
+}

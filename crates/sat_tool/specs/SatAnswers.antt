@@ -1,11 +1,9 @@
 -- What the solver says of the bytes of a file, and the lines that it writes.
-use Rattle.std.specs.Prelude.{◌≡◌, ℕ, ◌⊎◌, ◌≤◌, Bool, List, ◌++◌, Option, codes, decimal}
-use Rattle.std.specs.Io.KnownBytes.{Appends}
+use Rattle.std.specs.Prelude.{◌≡◌, ℕ, ◌⊎◌, Bool, List, ◌++◌, codes, decimal}
 use Rattle.cnf.specs.declared.lit.Lit.{Lit}
 use Rattle.cnf.specs.Clauses.{IsModel, HasNoModel}
 use Rattle.clause_log.specs.declared.chain.Chain.{Chain}
 use Rattle.clause_log.specs.Derivations.{Derives}
-use Rattle.oss_io.specs.Outside.{AppendsFront, Rose}
 use Rattle.dimacs.specs.declared.reading.Reason.{Reason}
 use Rattle.dimacs.specs.declared.reading.Reason.TheVariants as reason
 use Rattle.dimacs.specs.Dimacs.{IsDimacs, BreaksFormatAt}
@@ -60,9 +58,3 @@ told_no_memory = codes "want of memory\n"
 abbrev pub IsSatStatus : ℕ → Type 0
 IsSatStatus status =
     (status ≡ 10) ⊎ (status ≡ 20) ⊎ (status ≡ 1) ⊎ (status ≡ 4) ⊎ (status ≡ 5) ⊎ (status ≡ 6) ⊎ (status ≡ 7)
-
--- A sink was handed this line: it took the whole, or a front of it where its count of faults rose.
-pub record Tells (old new : Option (List ℕ)) (before now : ℕ) (line : List ℕ) : Type 0 where
-  pub front : AppendsFront old new line
-  pub whole : (Rose before now → ⊥) → Appends old new line
-  pub later : before ≤ now

@@ -1,52 +1,46 @@
 //! The lines that the program writes to `err`.
 
 ghost use Rattle.std.specs.Prelude.{◌≡◌, IfOk};
-ghost use Rattle.sat_tool.specs.SatAnswers.{Tells, break_line as line_of_break, reason_text as text_of_reason};
+ghost use Rattle.oss_io.specs.Outside.{Says};
+ghost use Rattle.sat_tool.specs.SatAnswers.{break_line as line_of_break, reason_text as text_of_reason};
 ghost use Rattle.sat_tool.specs.SatAnswers.{solver_usage, told_read_fault, told_write_fault, told_no_memory};
 
 use dimacs::{Fault, Reason};
 use itoa::Buffer;
-use oss_io::{Sink, write_all};
+use oss_io::{Sink, say};
 use port_types::{NoMemory, Text};
 use std::alloc::Global;
 
-/// Writes a line. That a sink for such lines fails is told nowhere.
-pub fn tell<E: Sink>(err: &mut E, line: &[u8])
-    ensures { Tells (E.taken err.old) (E.taken err.new) (E.faults err.old) (E.faults err.new) line.now }
-{
-    let _ = write_all(err, line);
-}
-
 /// Says that the words ask for nothing.
 #[tactic(auto, unfolding(crate::specs::SatAnswers::solver_usage))]
-pub fn tell_usage<E: Sink>(err: &mut E)
-    ensures { Tells (E.taken err.old) (E.taken err.new) (E.faults err.old) (E.faults err.new) solver_usage }
+pub fn say_usage<E: Sink>(err: &mut E)
+    ensures { Says (E.taken err.old) (E.taken err.new) (E.faults err.old) (E.faults err.new) solver_usage }
 {
-    tell(err, b"usage: sat_tool FILE [--trace OUT]\n");
+    say(err, b"usage: sat_tool FILE [--trace OUT]\n");
 }
 
 /// Says that the file could not be read.
 #[tactic(auto, unfolding(crate::specs::SatAnswers::told_read_fault))]
-pub fn tell_read_fault<E: Sink>(err: &mut E)
-    ensures { Tells (E.taken err.old) (E.taken err.new) (E.faults err.old) (E.faults err.new) told_read_fault }
+pub fn say_read_fault<E: Sink>(err: &mut E)
+    ensures { Says (E.taken err.old) (E.taken err.new) (E.faults err.old) (E.faults err.new) told_read_fault }
 {
-    tell(err, b"read fault\n");
+    say(err, b"read fault\n");
 }
 
 /// Says that an output could not be written.
 #[tactic(auto, unfolding(crate::specs::SatAnswers::told_write_fault))]
-pub fn tell_write_fault<E: Sink>(err: &mut E)
-    ensures { Tells (E.taken err.old) (E.taken err.new) (E.faults err.old) (E.faults err.new) told_write_fault }
+pub fn say_write_fault<E: Sink>(err: &mut E)
+    ensures { Says (E.taken err.old) (E.taken err.new) (E.faults err.old) (E.faults err.new) told_write_fault }
 {
-    tell(err, b"write fault\n");
+    say(err, b"write fault\n");
 }
 
 /// Says that memory was short.
 #[tactic(auto, unfolding(crate::specs::SatAnswers::told_no_memory))]
-pub fn tell_no_memory<E: Sink>(err: &mut E)
-    ensures { Tells (E.taken err.old) (E.taken err.new) (E.faults err.old) (E.faults err.new) told_no_memory }
+pub fn say_no_memory<E: Sink>(err: &mut E)
+    ensures { Says (E.taken err.old) (E.taken err.new) (E.faults err.old) (E.faults err.new) told_no_memory }
 {
-    tell(err, b"want of memory\n");
+    say(err, b"want of memory\n");
 }
 
 fn reason_text(reason: Reason) -> &'static [u8]

@@ -5,7 +5,6 @@
 //! the standard error and the file of the trace.
 #![tactic(auto)]
 
-mod arguments;
 mod file_sink;
 mod lines;
 mod outcome;
@@ -14,7 +13,7 @@ mod top;
 mod words;
 
 use file_sink::FileSink;
-use oss_io::{ErrSink, FileShelf, StdSink};
+use oss_io::{ErrSink, FileShelf, StdSink, argument_words};
 use port_types::NoMemory;
 use std::process::ExitCode;
 pub use top::run;
@@ -30,7 +29,7 @@ fn trace_name(words: &[String]) -> &str {
 
 /// Where the words can't be had for want of memory, the status is that of want of memory.
 fn main(rt: HostRuntime) -> ExitCode {
-    let status = match arguments::words(rt.alloc(), &rt) {
+    let status = match argument_words(rt.alloc(), &rt) {
         Ok(words) => run(
             rt.alloc(),
             words.as_slice(),

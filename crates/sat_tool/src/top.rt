@@ -4,19 +4,19 @@
 ghost use Rattle.std.specs.Prelude.{◌≡◌, ◌≢◌, ◌≤◌, ◌↔◌, ◌⊎◌, List, ℕ, Bool, Some, None, IfSome, IsSome, OnOk};
 ghost use Rattle.std.specs.Io.KnownBytes.{Appends};
 ghost use Rattle.dimacs.specs.SolverTexts.{sat_text, unsat_text};
-ghost use Rattle.oss_io.specs.Outside.{HasCause, Rose};
+ghost use Rattle.oss_io.specs.Outside.{HasCause, Rose, Says};
 ghost use Rattle.sat_tool.specs.SatTasks.{asked};
-ghost use Rattle.sat_tool.specs.SatAnswers.{HasThisModel, IsUnsatisfiable, IsTraceOf, IsBreakLine, IsSatStatus, Tells};
+ghost use Rattle.sat_tool.specs.SatAnswers.{HasThisModel, IsUnsatisfiable, IsTraceOf, IsBreakLine, IsSatStatus};
 ghost use Rattle.sat_tool.specs.SatAnswers.{solver_usage, told_read_fault, told_write_fault, told_no_memory};
 ghost use Rattle.sat_tool.specs.SatTellings.{task_of_words};
 ghost use Rattle.sat_tool.specs.SatOutcomes.{ComesTo};
 
-use crate::lines::{tell, tell_no_memory, tell_read_fault, tell_usage, tell_write_fault};
+use crate::lines::{say_no_memory, say_read_fault, say_usage, say_write_fault};
 use crate::outcome::SatOutcome;
 use crate::solving::solve_text;
 use crate::words::{Task, parse_words};
 use dimacs::unsat_text;
-use oss_io::{Failed, ReadStop, Shelf, Sink, read_all, write_all};
+use oss_io::{Failed, ReadStop, Shelf, Sink, read_all, say, write_all};
 use port_types::Text;
 use std::alloc::Global;
 
@@ -58,24 +58,24 @@ pub fn run<F: Shelf, O: Sink, E: Sink, T: Sink>(
 
     // 1: the file's bytes stand for no clauses, and the line tells where that is seen.
     ensures broken { result ≡ 1 → IfSome (asked words.now) (λ task. (text : List ℕ)
-        × Tells (E.taken err.old) (E.taken err.new) (E.faults err.old) (E.faults err.new) text
+        × Says (E.taken err.old) (E.taken err.new) (E.faults err.old) (E.faults err.new) text
         × IfSome (F.held shelf.old task.file) (λ bytes. IsBreakLine task.file bytes text)) }
 
     // 4 comes exactly where the words ask for nothing, and the shelf is untouched.
     ensures usage { (result ≡ 4) ↔ (asked words.now ≡ None) }
     ensures usage_shelf { result ≡ 4 → shelf.new ≡ shelf.old }
-    ensures usage_told { result ≡ 4 → Tells (E.taken err.old) (E.taken err.new) (E.faults err.old) (E.faults err.new)
+    ensures usage_told { result ≡ 4 → Says (E.taken err.old) (E.taken err.new) (E.faults err.old) (E.faults err.new)
         solver_usage }
 
     // 5 and 6 come only where a call on the shelf, or on an output, failed. 7 is free.
     ensures read_fault { result ≡ 5 → Rose (F.faults shelf.old) (F.faults shelf.new) }
-    ensures read_fault_told { result ≡ 5 → Tells (E.taken err.old) (E.taken err.new) (E.faults err.old)
+    ensures read_fault_told { result ≡ 5 → Says (E.taken err.old) (E.taken err.new) (E.faults err.old)
         (E.faults err.new) told_read_fault }
     ensures write_fault { result ≡ 6 → Rose (O.faults out.old) (O.faults out.new)
         ⊎ Rose (T.faults trace.old) (T.faults trace.new) }
-    ensures write_fault_told { result ≡ 6 → Tells (E.taken err.old) (E.taken err.new) (E.faults err.old)
+    ensures write_fault_told { result ≡ 6 → Says (E.taken err.old) (E.taken err.new) (E.faults err.old)
         (E.faults err.new) told_write_fault }
-    ensures no_memory_told { result ≡ 7 → Tells (E.taken err.old) (E.taken err.new) (E.faults err.old)
+    ensures no_memory_told { result ≡ 7 → Says (E.taken err.old) (E.taken err.new) (E.faults err.old)
         (E.faults err.new) told_no_memory }
 
     // `out` is written to at 10, 20 and 6 alone, and `trace` at 20 and 6 alone, where the words ask for one.
@@ -92,14 +92,14 @@ pub fn run<F: Shelf, O: Sink, E: Sink, T: Sink>(
     ensures trace_later { T.faults trace.old ≤ T.faults trace.new }
 {
     let Some(task) = parse_words(words) else {
-        tell_usage(err);
+        say_usage(err);
         return 4;
     };
     match outcome_of(alloc, task, shelf) {
         SatOutcome::Sat(text) => match write_all(out, text.as_slice()) {
             Ok(()) => 10,
             Err(Failed) => {
-                tell_write_fault(err);
+                say_write_fault(err);
                 6
             }
         },
@@ -107,25 +107,25 @@ pub fn run<F: Shelf, O: Sink, E: Sink, T: Sink>(
             Ok(()) => match write_all(out, unsat_text()) {
                 Ok(()) => 20,
                 Err(Failed) => {
-                    tell_write_fault(err);
+                    say_write_fault(err);
                     6
                 }
             },
             Err(Failed) => {
-                tell_write_fault(err);
+                say_write_fault(err);
                 6
             }
         },
         SatOutcome::Refused(line) => {
-            tell(err, line.as_slice());
+            say(err, line.as_slice());
             1
         }
         SatOutcome::ReadFault => {
-            tell_read_fault(err);
+            say_read_fault(err);
             5
         }
         SatOutcome::NoMemory => {
-            tell_no_memory(err);
+            say_no_memory(err);
             7
         }
     }

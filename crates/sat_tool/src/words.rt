@@ -1,8 +1,10 @@
 //! What the words of the command line ask for. Main function: `parse_words`. It touches nothing.
 
 ghost use Rattle.std.specs.Prelude.{◌≡◌, ◌∷◌, [], option_map};
-ghost use Rattle.sat_tool.specs.SatTasks.{asked, task_asked, names_file};
+ghost use Rattle.sat_tool.specs.SatTasks.{asked, task_asked};
 ghost use Rattle.sat_tool.specs.SatTellings.{task_of_words};
+
+use oss_io::is_operand;
 
 /// The file that is read, and the file that a trace is written to, if the words ask for one.
 #[derive(Clone, Copy, Debug)]
@@ -26,7 +28,7 @@ pub fn parse_words(words: &[String]) -> Option<Task<'_>>
 fn without_trace(file: &str) -> Option<Task<'_>>
     ensures { option_map task_of_words result ≡ task_asked (file.now ∷ []) }
 {
-    if names_file(file) {
+    if is_operand(file) {
         Some(Task { file, trace: None })
     } else {
         None
@@ -37,22 +39,12 @@ fn without_trace(file: &str) -> Option<Task<'_>>
 fn with_trace<'a>(file: &'a str, option: &str, out: &'a str) -> Option<Task<'a>>
     ensures { option_map task_of_words result ≡ task_asked (file.now ∷ option.now ∷ out.now ∷ []) }
 {
-    if names_file(file) && option == "--trace" && names_file(out) {
+    if is_operand(file) && option == "--trace" && is_operand(out) {
         Some(Task {
             file,
             trace: Some(out),
         })
     } else {
         None
-    }
-}
-
-/// Whether a word names a file: it is not empty and doesn't begin with `-`.
-fn names_file(word: &str) -> bool
-    ensures { result ≡ names_file word.now }
-{
-    match word.as_bytes() {
-        [] => false,
-        [first, ..] => *first != b'-',
     }
 }

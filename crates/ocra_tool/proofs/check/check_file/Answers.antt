@@ -12,6 +12,6 @@ returns-in-Ok-clause-means g c =
 
 pub returns-in-Err-clause-means : goal.returns-in-Err-clause-means
 returns-in-Err-clause-means g c =
-    c.unread.ensures (CheckFile c.args.file.now c.args.depth c.args.width) (g.F.Shelf.held c.args.shelf.now c.args.file.now) (Some []) (g.F.Shelf.faults c.args.shelf.now)
-    (g.F.Shelf.faults c.read_all.new.shelf) refl
+    c.unread.ensures (CheckFile c.args.file.now c.args.depth c.args.width) (g.F.Shelf.held c.args.shelf.now c.args.file.now) (Some [])
+    (g.F.Shelf.faults c.args.shelf.now) (g.F.Shelf.faults c.read_all.new.shelf) refl
     (λ e. c.in-Err.ensures.too_long (ap Err e)) (λ e. c.in-Err.ensures.failed (ap Err e))

@@ -2,7 +2,8 @@ use Rattle.std.proofs.Common.{arith, refl}
 use Rattle.std.proofs.lemmas.Bool.{false≢true}
 use Rattle.ocra_tool.proofs.Numbers.{number_is, parsed_no_number, parsed_another}
 use Rattle.ocra_tool.proofs.given.number_up_to.Goals as goal
-use Rattle.ocra_tool.proofs.given.number_up_to.Goals.{else-number-ge1-via-then-number-ge1+then-number-most+else-is_numeral, else-number-ge1-via-then-number-ge1+else-number-most, else-number-ge1-via-else-number-ge1}
+use Rattle.ocra_tool.proofs.given.number_up_to.Goals.{else-number-ge1-via-then-number-ge1+then-number-most+else-is_numeral}
+use Rattle.ocra_tool.proofs.given.number_up_to.Goals.{else-number-ge1-via-then-number-ge1+else-number-most, else-number-ge1-via-else-number-ge1}
 
 pub returns-then-is_numeral : goal.returns-then-is_numeral
 returns-then-is_numeral c =

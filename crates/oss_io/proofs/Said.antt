@@ -4,8 +4,7 @@ use Rattle.std.proofs.lemmas.List.{take_all, take-append-le, take_min}
 use Rattle.std.proofs.Math.Seq.{take-append-add}
 use Rattle.std.proofs.KnownBytes.{Appends-trans}
 use Rattle.std.specs.Io.KnownBytes.{Appends}
-use Rattle.oss_io.specs.Outside.{AppendsFront, HasCause, Rose}
-use Rattle.ocra_tool.specs.Lines.{Says}
+use Rattle.oss_io.specs.Outside.{AppendsFront, HasCause, Rose, Says}
 
 -- the whole is a front
 front_from_whole : (a b : Option (List ℕ)) (line : List ℕ) → Appends a b line → AppendsFront a b line

@@ -1,5 +1,5 @@
-use Rattle.ocra_tool.proofs.Saying.{says_first, says_two}
-use Rattle.ocra_tool.proofs.lines.say_two.Goals as goal
+use Rattle.oss_io.proofs.Said.{says_first, says_two}
+use Rattle.oss_io.proofs.saying.say_two.Goals as goal
 
 pub returns-in-Ok : goal.returns-in-Ok
 returns-in-Ok g c = says_two _ _ _ _ _ _ _ _ c.in-Ok.ensures.whole c.in-Ok.ensures.cause.later c.say.ensures

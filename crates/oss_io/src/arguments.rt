@@ -1,4 +1,8 @@
-//! The words of the command line, as the system hands them in. The edge of the program: nothing of it is a clause.
+//! The words of the command line, as the system hands them in: `argument_words`, of which nothing is a clause; and which
+//! of them are operands: `is_operand`. They touch the words of the process and memory.
+
+ghost use Rattle.std.specs.Prelude.{◌≡◌};
+ghost use Rattle.oss_io.specs.Operands.{is_operand};
 
 use port_types::NoMemory;
 use std::alloc::Global;
@@ -12,7 +16,7 @@ const DOUBLINGS: usize = 16;
 
 /// The words behind the program's name. A word that can't be had, or that is not UTF-8, is handed
 /// on as the empty word.
-pub fn words(alloc: Global, env: &impl Env) -> Result<Vec<String>, NoMemory> {
+pub fn argument_words(alloc: Global, env: &impl Env) -> Result<Vec<String>, NoMemory> {
     let mut words = Vec::new(alloc);
     for place in 1..usize::MAX {
         match word(alloc, env, place)? {
@@ -43,4 +47,14 @@ fn word(alloc: Global, env: &impl Env, place: usize) -> Result<Option<String>, N
 /// The text of these bytes, empty where they are not UTF-8.
 fn text(alloc: Global, bytes: Vec<u8>) -> String {
     String::from_utf8(bytes).unwrap_or(String::new(alloc))
+}
+
+/// Whether a word stands for itself: it is not empty and doesn't begin with `-`.
+pub fn is_operand(word: &str) -> bool
+    ensures { result ≡ is_operand word.now }
+{
+    match word.as_bytes() {
+        [] => false,
+        [first, ..] => *first != b'-',
+    }
 }
