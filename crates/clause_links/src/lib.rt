@@ -7,7 +7,5 @@
 
 mod clause_links;
 mod records;
-#[cfg(test)]
-mod tests;
 
 pub use clause_links::ClauseLinks;

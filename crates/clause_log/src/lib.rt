@@ -11,6 +11,3 @@ mod lit_set;
 
 pub use chain::{Chain, ChainLog, Pivot, Pivots};
 pub use checking::{Marks, check, derivations_refute};
-
-#[cfg(test)]
-mod tests;

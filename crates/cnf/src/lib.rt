@@ -27,6 +27,3 @@ pub use laws::{extensions_compose, gates_are_right};
 pub use lists::{gate_all, gate_any};
 pub use lit::Lit;
 pub use valuation::Model01;
-
-#[cfg(test)]
-mod tests;

@@ -6,15 +6,11 @@ mod driving;
 mod forms;
 mod in_next;
 mod laws;
-#[cfg(test)]
-mod level_tests;
 mod over_free;
 mod port_forms;
 mod port_row;
 mod sizes;
 mod substituting;
-#[cfg(test)]
-mod tests;
 
 pub use contracts::contracts_at;
 pub use driving::{Driver, Drivers, port_drivers};

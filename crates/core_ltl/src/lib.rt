@@ -11,8 +11,6 @@ mod node;
 mod question;
 mod stop;
 mod table;
-#[cfg(test)]
-mod tests;
 mod walk;
 
 pub use closure::Closure;

@@ -6,7 +6,5 @@
 
 mod neighbours;
 mod queue;
-#[cfg(test)]
-mod tests;
 
 pub use queue::DecisionQueue;

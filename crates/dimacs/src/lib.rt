@@ -6,8 +6,6 @@ mod entries;
 mod laws;
 mod numerals;
 mod reading;
-#[cfg(test)]
-mod tests;
 mod texts;
 mod words;
 

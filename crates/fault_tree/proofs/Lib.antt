@@ -2,7 +2,7 @@ mod Counts
 mod Elements
 mod Formed
 mod KeepingLaws
-mod Marking
+pub mod Marking
 mod Merging
 mod Shortlex
 mod TableLaws

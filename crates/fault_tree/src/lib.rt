@@ -6,8 +6,6 @@ mod expanding;
 mod minimal;
 mod nodes;
 mod reaching;
-#[cfg(test)]
-mod tests;
 mod unions;
 mod widths;
 

@@ -8,4 +8,3 @@ pub mod RankedStates
 pub mod Widening
 pub mod OnePosition
 pub mod Stages
-mod Examples

@@ -3,4 +3,3 @@ pub mod FirstLassos
 pub mod FormulaPorts
 pub mod UsedPorts
 pub mod Laws
-pub mod Examples

@@ -6,8 +6,6 @@
 #![tactic(auto)]
 
 mod laws;
-#[cfg(test)]
-mod tests;
 
 pub use laws::{
     first_lassos, one_position_is_enough, ranks_are_places, read_ports_decide,

@@ -11,8 +11,6 @@ mod questions;
 mod reading;
 mod renumbering;
 mod scope;
-#[cfg(test)]
-mod tests;
 mod widening;
 
 pub use deciding::levels;

@@ -7,8 +7,6 @@ mod narrowing;
 mod orders;
 mod search;
 mod test;
-#[cfg(test)]
-mod tests;
 
 pub use search::minimal;
 pub use test::Test;

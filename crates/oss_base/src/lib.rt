@@ -9,8 +9,6 @@ mod laws;
 mod limits;
 mod place;
 mod sites;
-#[cfg(test)]
-mod tests;
 
 pub use fault::{Fault, FaultKind, Stop};
 pub use first_site::FirstSite;

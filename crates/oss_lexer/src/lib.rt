@@ -10,6 +10,3 @@ pub use laws::{
     one_first_fault, one_piece, one_token_list, tokens_or_fault, tokens_stand, tokens_without_fault,
 };
 pub use lexing::lex;
-
-#[cfg(test)]
-mod tests;

@@ -6,8 +6,6 @@ mod expressions;
 mod items;
 mod laws;
 mod printing;
-#[cfg(test)]
-mod tests;
 mod words;
 
 pub use laws::{canonical_text_reads_back, spans_make_no_difference};

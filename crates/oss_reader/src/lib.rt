@@ -11,8 +11,6 @@ mod measured;
 mod refinement;
 mod rest;
 mod terminals;
-#[cfg(test)]
-mod tests;
 mod top;
 mod types;
 mod words;

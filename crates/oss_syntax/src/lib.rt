@@ -8,8 +8,6 @@ mod laws;
 mod refinement;
 mod same;
 mod terminal;
-#[cfg(test)]
-mod tests;
 mod token;
 mod types;
 mod words;

@@ -11,8 +11,6 @@ mod lists;
 mod memory;
 mod sets;
 mod steps;
-#[cfg(test)]
-mod tests;
 mod types;
 
 pub use interval::Interval;

@@ -16,8 +16,6 @@ mod numbers;
 mod places;
 mod reading;
 mod states;
-#[cfg(test)]
-mod tests;
 mod values;
 
 pub use block::write_lasso;

@@ -18,14 +18,10 @@ mod meet;
 mod opposites;
 mod order;
 mod outcome;
-#[cfg(test)]
-mod propagation_tests;
 mod propagator;
 mod room;
 mod search;
 mod solver;
-#[cfg(test)]
-mod tests;
 mod trail;
 mod units;
 

@@ -15,8 +15,6 @@ mod lookup;
 mod port;
 mod spec;
 mod sub;
-#[cfg(test)]
-mod tests;
 mod undriven;
 mod wire;
 

@@ -15,8 +15,6 @@ mod pairs;
 mod refinements;
 mod subcomponents;
 mod table;
-#[cfg(test)]
-mod tests;
 mod uses;
 mod visible;
 mod words;

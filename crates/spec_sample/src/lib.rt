@@ -4,7 +4,5 @@
 
 mod chain;
 mod sampling;
-#[cfg(test)]
-mod tests;
 
 pub use sampling::sample;

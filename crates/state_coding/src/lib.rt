@@ -14,8 +14,6 @@ mod names;
 mod states;
 mod sums;
 mod terms;
-#[cfg(test)]
-mod tests;
 
 pub use atoms::code_atom;
 pub use laws::{atoms_are_right, codes_are_in_value_order, states_stay};

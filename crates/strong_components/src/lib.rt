@@ -2,7 +2,5 @@
 #![tactic(auto)]
 
 mod strong;
-#[cfg(test)]
-mod tests;
 
 pub use strong::ranks_of;

@@ -9,4 +9,3 @@ pub mod StepLaws
 pub mod Fronts
 pub mod StepFronts
 pub mod Conditions
-pub mod SampleFacts

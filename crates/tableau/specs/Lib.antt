@@ -3,4 +3,3 @@ pub mod Copies
 pub mod Steps
 pub mod Laws
 pub mod Parts
-pub mod Samples

@@ -12,8 +12,6 @@ mod laws;
 mod layers;
 mod members;
 mod steps;
-#[cfg(test)]
-mod tests;
 mod untils;
 
 pub use construction::Tableau;

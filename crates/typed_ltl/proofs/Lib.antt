@@ -8,4 +8,3 @@ pub mod RowSteps
 pub mod RowLoops
 pub mod Rooms
 pub mod Meanings
-pub mod Samples

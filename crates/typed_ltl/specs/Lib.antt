@@ -9,4 +9,3 @@ pub mod EqualityLaws
 pub mod Cells
 pub mod Rows
 pub mod Operators
-pub mod Samples

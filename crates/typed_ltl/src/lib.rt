@@ -14,8 +14,6 @@ mod laws;
 mod ports;
 mod rows;
 mod term;
-#[cfg(test)]
-mod tests;
 mod truth;
 mod values;
 

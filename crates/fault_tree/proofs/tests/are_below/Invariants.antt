@@ -1,6 +1,0 @@
-use Rattle.std.proofs.Common.{◌<◌, take}
-use Rattle.std.specs.Prelude.{All}
-use Rattle.fault_tree.proofs.tests.are_below.Given as goal
-
-abbrev pub invariant-loop-cut : goal.invariant-loop-cut
-invariant-loop-cut l = All (All (λ member. member < l.end)) (take l.cut-index l.cuts)

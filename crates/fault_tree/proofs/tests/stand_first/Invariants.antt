@@ -1,6 +1,0 @@
-use Rattle.std.proofs.Common.{◌<◌, ℕ}
-use Rattle.fault_tree.specs.Trees.{IsMember}
-use Rattle.fault_tree.proofs.tests.stand_first.Given as goal
-
-abbrev pub invariant-loop-node : goal.invariant-loop-node
-invariant-loop-node l = (k : ℕ) → k < l.node → (member : ℕ) → IsMember l.nodes k member → member < k

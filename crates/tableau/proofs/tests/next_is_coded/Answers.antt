@@ -1,5 +1,0 @@
-use Rattle.tableau.proofs.SampleFacts.{then_reads}
-use Rattle.tableau.proofs.tests.next_is_coded.Goals as goal
-
-pub tableau_of-requires-clause-atoms : goal.tableau_of-requires-clause-atoms
-tableau_of-requires-clause-atoms c = then_reads _ _ c.in_ok-ports.ensures c.in_ok-f.ensures
