@@ -149,7 +149,7 @@ const DIFFERENT: [(&[u8], &[u8]); 36] = [
     ),
     (
         b"COMPONENT S INTERFACE REFINEMENT SUB s: T;",
-        b"COMPONENT S INTERFACE REFINEMENT SUB s: U;",
+        b"COMPONENT S INTERFACE REFINEMENT SUB s: V;",
     ),
     (
         b"COMPONENT S INTERFACE REFINEMENT CONNECTION a := b;",
