@@ -9,7 +9,8 @@ use Rattle.core_ltl.specs.Nodes.{members, IsClosure}
 use Rattle.tableau.specs.TableauStates.{ClosureOverPorts, TableauState}
 use Rattle.first_lasso.specs.Lassos.{WordHas}
 use Rattle.first_lasso.specs.FirstLassos.{IsNotAfter, IsWitness, IsFirstLasso, HasNoneUpTo}
-use Rattle.lasso_search.specs.TableauLassos.{IsQuestionOver, BreaksQuestion, IsTableauLasso, HasTableauLasso}
+use Rattle.tableau.specs.Questions.{IsQuestionOver, BreaksQuestion}
+use Rattle.lasso_search.specs.TableauLassos.{IsTableauLasso, HasTableauLasso}
 use Rattle.lasso_search.specs.Laws.{BreakingLassosAreTableauLassos}
 use Rattle.lasso_search.specs.Loops.{ranks_of, HasNoLoop, HasNoLoopOf, IsLeastLoop, IsBestLoop}
 

@@ -16,7 +16,8 @@ use Rattle.cnf.specs.Clauses.{lit_holds, clauses_hold, IsModel}
 use Rattle.state_coding.proofs.StateLaws.{parts_hold, within_later}
 use Rattle.tableau.specs.TableauStates.{ClosureOverPorts, TableauState, IsTableauStep, fairness}
 use Rattle.tableau.specs.Copies.{LayerLits, IsCodedLayer, layer_state}
-use Rattle.lasso_search.specs.TableauLassos.{tableau_state_at, IsSignedIn, IsMetInLoop}
+use Rattle.tableau.specs.Questions.{IsSignedIn}
+use Rattle.lasso_search.specs.TableauLassos.{tableau_state_at, IsMetInLoop}
 use Rattle.lasso_search.specs.Paths.{path_states, SomeMeets, ContinuesPath, ClosesLoop}
 use Rattle.lasso_search.proofs.Conditions.{IsConditionOf, conditions_are}
 use Rattle.lasso_search.proofs.SignClauses.{IsReadable, IsPairOver, IsConditionOver, met_in_loop, loop_meets}

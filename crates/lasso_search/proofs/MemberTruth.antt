@@ -32,7 +32,8 @@ use Rattle.tableau.specs.TableauStates.{has_member, atom_at, fairness, meets_con
 use Rattle.first_lasso.specs.Lassos.{IsStateOver, WordHas, lasso_word}
 use Rattle.first_lasso.specs.FirstLassos.{IsWitness}
 use Rattle.first_lasso.proofs.Words.{place_within}
-use Rattle.lasso_search.specs.TableauLassos.{IsQuestionOver, BreaksQuestion, tableau_state_at, IsSignedIn}
+use Rattle.tableau.specs.Questions.{IsQuestionOver, BreaksQuestion, IsSignedIn}
+use Rattle.lasso_search.specs.TableauLassos.{tableau_state_at}
 use Rattle.lasso_search.specs.TableauLassos.{IsMetInLoop, IsTableauLasso, HasTableauLasso}
 use Rattle.lasso_search.proofs.WordTruth.{reaches_here}
 use Rattle.lasso_search.proofs.Conditions.{conditions_listed}

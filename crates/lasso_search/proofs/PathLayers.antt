@@ -14,7 +14,8 @@ use Rattle.tableau.specs.TableauStates.{ClosureOverPorts, TableauState, IsTablea
 use Rattle.tableau.specs.Copies.{LayerLits, IsCodedLayer, layer_state}
 use Rattle.tableau.specs.Laws.{LayersStay}
 use Rattle.tableau.proofs.Agreement.{values_more}
-use Rattle.lasso_search.specs.TableauLassos.{tableau_state_at, IsSignedIn}
+use Rattle.tableau.specs.Questions.{IsSignedIn}
+use Rattle.lasso_search.specs.TableauLassos.{tableau_state_at}
 use Rattle.lasso_search.specs.Paths.{path_states, IsTableauPath, ContinuesPath, IsCodedPath, GrowsWhereOff}
 
 -- ---- more variables change no layer

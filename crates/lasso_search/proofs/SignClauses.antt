@@ -15,8 +15,10 @@ use Rattle.cnf.proofs.ModelLaws.{lit_holds-opposite}
 use Rattle.tableau.specs.TableauStates.{ClosureOverPorts, TableauState, meets_condition}
 use Rattle.tableau.specs.Copies.{LayerLits, layer_state, member_literal}
 use Rattle.tableau.proofs.Places.{member_value}
-use Rattle.lasso_search.specs.TableauLassos.{tableau_state_at, IsSignedIn, IsMetInLoop}
-use Rattle.lasso_search.specs.Paths.{path_states, SomeMeets, signed_literal, sign_clauses, fair_literals, all_fair_clauses}
+use Rattle.tableau.specs.Questions.{IsSignedIn}
+use Rattle.lasso_search.specs.TableauLassos.{tableau_state_at, IsMetInLoop}
+use Rattle.tableau.specs.Questions.{signed_literal}
+use Rattle.lasso_search.specs.Paths.{path_states, SomeMeets, sign_clauses, fair_literals, all_fair_clauses}
 
 not_true : (b : Bool) → not b ≡ true → b ≡ false
 not_true true e = sym e

@@ -10,7 +10,7 @@ use Rattle.cnf.proofs.ModelLaws.{clauses_hold-take}
 use Rattle.state_coding.proofs.StateLaws.{both_hold, parts_hold}
 use Rattle.tableau.specs.TableauStates.{ClosureOverPorts, fairness}
 use Rattle.tableau.specs.Copies.{LayerLits, IsCodedLayer, layer_state}
-use Rattle.lasso_search.specs.TableauLassos.{IsQuestionOver, IsSignedIn}
+use Rattle.tableau.specs.Questions.{IsQuestionOver, IsSignedIn}
 use Rattle.lasso_search.specs.Paths.{path_states, SomeMeets, sign_clauses, all_fair_clauses}
 use Rattle.lasso_search.proofs.SignClauses.{IsReadable, signs_say, signs_fit, all_fair_say, all_fair_fit}
 use Rattle.lasso_search.proofs.LayerFacts.{readable, all_readable, readable_in, conditions_over}

@@ -34,7 +34,8 @@ use Rattle.tableau.specs.TableauStates.{has_member, atom_at, fairness, meets_con
 use Rattle.first_lasso.specs.Lassos.{IsStateOver, WordHas}
 use Rattle.first_lasso.specs.FirstLassos.{IsWitness}
 use Rattle.first_lasso.proofs.Words.{place_within}
-use Rattle.lasso_search.specs.TableauLassos.{IsQuestionOver, BreaksQuestion, tableau_state_at, shown_valuations}
+use Rattle.tableau.specs.Questions.{IsQuestionOver, BreaksQuestion}
+use Rattle.lasso_search.specs.TableauLassos.{tableau_state_at, shown_valuations}
 use Rattle.lasso_search.specs.TableauLassos.{IsMetInLoop, IsTableauLasso, HasTableauLasso}
 use Rattle.lasso_search.proofs.WordTruth.{as_formula, truth_at, truth_told, truth_tells, reaches_here, reaches_later, until_unfolds}
 use Rattle.lasso_search.proofs.Conditions.{IsConditionOf, conditions_are}

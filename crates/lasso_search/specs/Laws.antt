@@ -8,7 +8,8 @@ use Rattle.core_ltl.specs.Nodes.{members, IsClosure}
 use Rattle.tableau.specs.TableauStates.{ClosureOverPorts}
 use Rattle.first_lasso.specs.Lassos.{WordHas}
 use Rattle.first_lasso.specs.FirstLassos.{IsWitness, IsFirstIfAny}
-use Rattle.lasso_search.specs.TableauLassos.{IsQuestionOver, BreaksQuestion, HasTableauLasso}
+use Rattle.tableau.specs.Questions.{IsQuestionOver, BreaksQuestion}
+use Rattle.lasso_search.specs.TableauLassos.{HasTableauLasso}
 
 -- A lasso over the ports breaks a question exactly where as many tableau states with its valuations are joined by steps
 -- in its shape, the first has the question, and each fairness condition is met in the loop.

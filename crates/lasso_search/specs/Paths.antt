@@ -1,8 +1,7 @@
 -- Serves proofs only: what is said of the layers of a path, and of the clauses that close its loop.
 
 use Rattle.std.specs.Prelude.{◌≡◌, ℕ, ◌+◌, ◌<◌, ◌≤◌, Bool, true, false, List, [], ◌∷◌, ◌++◌, All, Option, Some, None}
-use Rattle.std.specs.Prelude.{length}
-use Rattle.std.specs.Prelude.{map, reverse, if◌then◌else◌}
+use Rattle.std.specs.Prelude.{length, map, reverse}
 use Rattle.std.specs.List.{flat_map}
 use Rattle.core_ltl.specs.declared.node.NodeId.{NodeId}
 use Rattle.core_ltl.specs.declared.question.SignedNode.{SignedNode}
@@ -11,7 +10,8 @@ use Rattle.cnf.specs.Clauses.{opposite, lit_holds, clauses_hold, IsModel}
 use Rattle.tableau.specs.TableauStates.{ClosureOverPorts, TableauState, IsTableauState, IsTableauStep}
 use Rattle.tableau.specs.TableauStates.{fairness, meets_condition}
 use Rattle.tableau.specs.Copies.{LayerLits, IsCodedLayer, layer_state, member_literal}
-use Rattle.lasso_search.specs.TableauLassos.{tableau_state_at, IsSignedIn, IsMetInLoop}
+use Rattle.tableau.specs.Questions.{IsSignedIn, signed_literal}
+use Rattle.lasso_search.specs.TableauLassos.{tableau_state_at, IsMetInLoop}
 
 -- the states of the layers in a model
 abbrev pub path_states : List Bool → ClosureOverPorts → List LayerLits → List TableauState
@@ -60,11 +60,6 @@ pub record GrowsWhereOff (under : Lit) (n : ℕ) (older : List (List Lit)) (m : 
   pub added : (more : List (List Lit)) × (newer ≡ older ++ more)
   pub off : (model : List Bool) → IsModel n older model → lit_holds model under ≡ false
       → (more : List Bool) × IsModel m newer (model ++ more)
-
--- the literal that says that a node has its sign
-abbrev pub signed_literal : LayerLits → SignedNode → Lit
-signed_literal layer x =
-    if x.positive then member_literal layer x.node.0 else opposite (member_literal layer x.node.0)
 
 -- where the literal holds, each node has its sign
 abbrev pub sign_clauses : Lit → LayerLits → List SignedNode → List (List Lit)

@@ -5,21 +5,11 @@
 use Rattle.std.specs.Prelude.{◌≡◌, ℕ, ◌+◌, ◌<◌, ◌≤◌, true, List, [], All, Option, length, map, slice_index_or}
 use Rattle.port_types.specs.declared.types.Value.{Value}
 use Rattle.typed_ltl.specs.declared.lasso.Lasso.{Lasso}
-use Rattle.typed_ltl.specs.Traces.{Trace}
 use Rattle.core_ltl.specs.declared.node.NodeId.{NodeId}
 use Rattle.core_ltl.specs.declared.question.SignedNode.{SignedNode}
-use Rattle.core_ltl.specs.Nodes.{members}
-use Rattle.core_ltl.specs.Questions.{Breaks}
 use Rattle.tableau.specs.TableauStates.{ClosureOverPorts, TableauState, IsTableauState, IsTableauStep}
-use Rattle.tableau.specs.TableauStates.{fairness, has_member, meets_condition}
-
--- the nodes of a question are members of the closure
-abbrev pub IsQuestionOver : ClosureOverPorts → List SignedNode → Type 0
-IsQuestionOver t question = All (λ x. x.node.0 < length t.closure.nodes) question
-
--- the traces on which each node of the question has its sign at position 0
-abbrev pub BreaksQuestion : ClosureOverPorts → List SignedNode → Trace → Type 0
-BreaksQuestion t question w = Breaks (members t.closure) w question
+use Rattle.tableau.specs.TableauStates.{fairness, meets_condition}
+use Rattle.tableau.specs.Questions.{IsSignedIn}
 
 -- a state of a list, by its place
 abbrev pub tableau_state_at : List TableauState → ℕ → TableauState
@@ -27,10 +17,6 @@ tableau_state_at states i = slice_index_or states i (record { now = []; next = [
 
 abbrev pub shown_valuations : List TableauState → List (List Value)
 shown_valuations states = map (λ s. s.now) states
-
--- the node is in the state where its sign is positive, and else is not
-abbrev pub IsSignedIn : TableauState → SignedNode → Type 0
-IsSignedIn s x = has_member s x.node.0 ≡ x.positive
 
 -- some state of the loop meets the condition
 pub record IsMetInLoop (states : List TableauState) (loop_at : ℕ) (condition : Option (NodeId × NodeId)) : Type 0 where

@@ -7,7 +7,7 @@ ghost use Rattle.cnf.specs.declared.lit.Lit.{Lit as LitValue};
 ghost use Rattle.cnf.specs.Clauses.{IsModel, clauses_hold, lit_holds};
 ghost use Rattle.tableau.specs.Copies.{IsCodedLayer, layer_state};
 ghost use Rattle.tableau.specs.TableauStates.{fairness};
-ghost use Rattle.lasso_search.specs.TableauLassos.{IsQuestionOver, IsSignedIn};
+ghost use Rattle.tableau.specs.Questions.{IsQuestionOver, IsSignedIn};
 ghost use Rattle.lasso_search.specs.Paths.{path_states, SomeMeets, ContinuesPath, ClosesLoop, IsCodedPath};
 ghost use Rattle.lasso_search.specs.Paths.{GrowsWhereOff};
 

@@ -10,7 +10,7 @@ ghost use Rattle.state_coding.specs.Codes.{IsCodable};
 ghost use Rattle.state_coding.specs.States.{HasBits, state_clauses, state_values};
 ghost use Rattle.first_lasso.specs.Lassos.{WordHas};
 ghost use Rattle.first_lasso.specs.FirstLassos.{IsFirstIfAny};
-ghost use Rattle.lasso_search.specs.TableauLassos.{IsQuestionOver, BreaksQuestion};
+ghost use Rattle.tableau.specs.Questions.{IsQuestionOver, BreaksQuestion};
 ghost use Rattle.tableau.specs.Copies.{IsCodedLayer};
 ghost use Rattle.lasso_search.specs.Paths.{path_states, ClosesLoop, IsCodedPath, GrowsWhereOff};
 ghost use Rattle.lasso_search.specs.LeastModels.{IsModelUnder, IsLeastShown};

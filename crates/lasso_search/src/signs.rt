@@ -6,7 +6,8 @@ ghost use Rattle.std.specs.Prelude.{◌≡◌, ◌<◌, ◌∷◌, ◌++◌, Som
 ghost use Rattle.core_ltl.specs.declared.node.NodeId.{NodeId as NodeNumber};
 ghost use Rattle.cnf.specs.Clauses.{opposite};
 ghost use Rattle.tableau.specs.TableauStates.{fairness};
-ghost use Rattle.lasso_search.specs.Paths.{signed_literal, sign_clauses, fair_literals, fair_clauses};
+ghost use Rattle.tableau.specs.Questions.{signed_literal};
+ghost use Rattle.lasso_search.specs.Paths.{sign_clauses, fair_literals, fair_clauses};
 ghost use Rattle.lasso_search.specs.Paths.{all_fair_clauses};
 
 use cnf::{Clause, Lit};

@@ -14,7 +14,7 @@ use Rattle.levels.specs.Levels.{level_meaning, IsLevel}
 use Rattle.levels.specs.LevelQuestions.{entailment, met_assumption, Asks}
 use Rattle.narrowed_questions.specs.NarrowedQuestions.{ReadsFreePorts, IsNarrowedQuestion, EntailmentsAreNarrowed, AssumptionsAreNarrowed}
 use Rattle.narrowed_questions.specs.NarrowedQuestions.{NarrowedQuestionsAreKnown}
-use Rattle.lasso_search.specs.TableauLassos.{IsQuestionOver}
+use Rattle.tableau.specs.Questions.{IsQuestionOver}
 use Rattle.level_verdicts.specs.declared.deciding.LevelSearch.{LevelSearch}
 use Rattle.level_verdicts.specs.Steps.{IsSearchOf, IsVerdictByNodes}
 use Rattle.level_verdicts.specs.Verdicts.{IsStateLevel, IsVerdict}

@@ -16,7 +16,7 @@ use Rattle.first_lasso.specs.FirstLassos.{IsFirstIfAny}
 use Rattle.levels.specs.declared.level.Level.{Level}
 use Rattle.narrowed_questions.specs.NarrowedQuestions.{HaveTruths, IsKnownOverFree}
 use Rattle.tableau.specs.TableauStates.{ClosureOverPorts}
-use Rattle.lasso_search.specs.TableauLassos.{BreaksQuestion}
+use Rattle.tableau.specs.Questions.{BreaksQuestion}
 use Rattle.level_verdicts.specs.Steps.{AreWidened, verdict_of, IsVerdictByNodes}
 use Rattle.level_verdicts.specs.Verdicts.{IsStateLevel, IsVerdict}
 

@@ -7,7 +7,7 @@ ghost use Rattle.state_coding.specs.Codes.{IsCodable};
 ghost use Rattle.state_coding.specs.Reads.{ReadsPorts};
 ghost use Rattle.spec_model.specs.FreeTypes.{free_types};
 ghost use Rattle.levels.specs.Levels.{IsLevel};
-ghost use Rattle.lasso_search.specs.TableauLassos.{IsQuestionOver};
+ghost use Rattle.tableau.specs.Questions.{IsQuestionOver};
 ghost use Rattle.level_verdicts.specs.Verdicts.{CanBeDecided, AreVerdicts};
 ghost use Rattle.level_verdicts.specs.Steps.{IsSearchOf, AreWidened, verdict_of as verdict_by, IsVerdictByNodes};
 

@@ -1,6 +1,6 @@
 use Rattle.first_lasso.specs.Lassos.{WordHas}
 use Rattle.first_lasso.proofs.FirstLassos.{first_if_any_unique}
-use Rattle.lasso_search.specs.TableauLassos.{BreaksQuestion}
+use Rattle.tableau.specs.Questions.{BreaksQuestion}
 use Rattle.lasso_search.proofs.laws.answers_are_one.Goals as goal
 
 pub returns : goal.returns

@@ -1,0 +1,3 @@
+pub mod LeastMaps
+pub mod Laws
+pub mod Maps
