@@ -4,7 +4,7 @@
 -- guards make them inductive, as lemmas do for invariants (A. R. Bradley, SAT-Based Model Checking without Unrolling,
 -- 2011).
 
-use Rattle.std.specs.Prelude.{◌≡◌, ℕ, ◌<◌, ◌≤◌, ℤ, pos, negsuc, List, [], All, Some, length, map, slice_get}
+use Rattle.std.specs.Prelude.{◌≡◌, ℕ, ◌<◌, ◌≤◌, ℤ, pos, negsuc, List, [], All, Some, length, slice_get}
 use Rattle.core_ltl.specs.declared.question.SignedNode.{SignedNode}
 use Rattle.tableau.specs.TableauStates.{ClosureOverPorts, TableauState, IsTableauState, IsTableauStep}
 use Rattle.tableau.specs.Questions.{IsSignedIn}

@@ -7,5 +7,7 @@
 #![tactic(auto)]
 
 mod bounds;
+mod laws;
 
 pub use bounds::{CertLogs, Certificate, Guard, GuardedBound};
+pub use laws::certificates_make_valid;
