@@ -16,7 +16,7 @@ use Rattle.tableau.specs.TableauStates.{ClosureOverPorts}
 use Rattle.tableau.specs.Questions.{IsQuestionOver, BreaksQuestion, IsSignedIn}
 use Rattle.counter_cert.specs.declared.bounds.GuardedBound.{GuardedBound}
 use Rattle.counter_cert.specs.Progress.{most_progress, meets_turn, progress_after}
-use Rattle.counter_cert.specs.Certificates.{GuardHolds, IsUpTo, MeetsBound, MeetsAll, IsBound, IsCertificate}
+use Rattle.counter_cert.specs.Certificates.{GuardHolds, IsUpTo, MeetsBound, MeetsAll, IsProgressBound, IsCertificate}
 use Rattle.counter_cert.specs.Laws.{CertificatesMakeValid}
 use Rattle.counter_cert.proofs.DecidedLists.{some_list_tells}
 use Rattle.counter_cert.proofs.TraceValues.{ValuesByKind}
@@ -41,7 +41,7 @@ one_more true false q h k = absurd (true≢false (sym k))
 one_more false b q h k = absurd (true≢false (sym h))
 
 -- progress that is beyond every number that is counted is beyond a bound
-beyond : (most q : ℕ) (b : ℤ) → most < q → IsBound most b → IsUpTo q b → ⊥
+beyond : (most q : ℕ) (b : ℤ) → most < q → IsProgressBound most b → IsUpTo q b → ⊥
 beyond most q (pos b) h bound up = omega (arith, h, bound, up)
 beyond most q (negsuc n) h bound up = up
 
@@ -123,8 +123,8 @@ module _ (by_kind : ValuesByKind) (t : ClosureOverPorts) (question : List Signed
       let within = slice_get_within entries alone.place alone.entry alone.listed in
       let is = get_or_from_slice_get entries alone.place alone.entry alone.entry alone.listed in
       let s = state_on t w i r.holding in
-      let bound : IsBound (most_progress t k) alone.entry.bound =
-      subst (λ (e : GuardedBound). IsBound (most_progress t k) e.bound) is (cert.bounds alone.place alone.entry within).bound in
+      let bound : IsProgressBound (most_progress t k) alone.entry.bound =
+      subst (λ (e : GuardedBound). IsProgressBound (most_progress t k) e.bound) is (cert.bounds alone.place alone.entry within).bound in
       let meets : MeetsBound s r.progress alone.entry = subst (MeetsBound s r.progress) is (r.meets alone.place alone.entry within) in
       let guard : GuardHolds s alone.entry.guard = subst (GuardHolds s) (sym alone.unguarded) (All-nil (IsSignedIn s)) in
       beyond (most_progress t k) r.progress alone.entry.bound (omega (arith, r.enough)) bound (meets guard))

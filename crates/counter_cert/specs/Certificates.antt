@@ -39,13 +39,13 @@ pub record IsGuard (t : ClosureOverPorts) (w : ℕ) (guard : List SignedNode) : 
   pub once : NamesOnce guard
 
 -- from -1 to the most progress that is counted
-abbrev pub IsBound : ℕ → ℤ → Type 0
-IsBound most (pos b) = b ≤ most
-IsBound most (negsuc n) = n ≡ 0
+abbrev pub IsProgressBound : ℕ → ℤ → Type 0
+IsProgressBound most (pos b) = b ≤ most
+IsProgressBound most (negsuc n) = n ≡ 0
 
 pub record IsGuardedBound (t : ClosureOverPorts) (k w : ℕ) (entry : GuardedBound) : Type 0 where
   pub guard : IsGuard t w entry.guard
-  pub bound : IsBound (most_progress t k) entry.bound
+  pub bound : IsProgressBound (most_progress t k) entry.bound
 
 -- some entry has no guard, so that its bound is one on all states
 pub record HasUnguarded (entries : List GuardedBound) : Type 0 where

@@ -1,9 +1,8 @@
 //! Counter certificates: bounds on progress, under guards, that show of every infinite trace that it does not break a
-//! question; their clauses, and their check by derivations.
+//! question.
 //!
-//! The definitions in `specs/` say what progress is (`Progress`), what a certificate is (`Certificates`), and the clauses
-//! by whose derivations one is checked (`StartClauses`, `StepClauses`, `Checking`). Main function: `verify`. May touch
-//! memory and nothing else.
+//! The definitions in `specs/` say what progress is (`Progress`) and what a certificate is (`Certificates`), and that a
+//! question that has one is valid (`Laws`). Main function: the law `certificates_make_valid`. Touches memory alone.
 #![tactic(auto)]
 
 mod bounds;

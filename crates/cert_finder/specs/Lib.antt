@@ -1,3 +1,0 @@
-pub mod LeastMaps
-pub mod Laws
-pub mod Maps
