@@ -8,7 +8,7 @@ use mathlib.Core.Bool.{beq}
 use Rattle.cnf.specs.declared.lit.Lit.{Lit}
 use Rattle.cnf.specs.Clauses.{opposite}
 use Rattle.sat_core.specs.declared.trail.Step.{Step}
-use Rattle.sat_core.specs.Search.{step_at, lit_at, no_step, MadeTrue, IsUnassigned, IsTrail, unassigned_count, ValueIs}
+use Rattle.sat_core.specs.Search.{step_at, lit_at, no_step, MadeTrue, IsUnassigned, IsTrail, unassigned_count, ValueIs, value_of}
 
 abbrev pub lit_of : ℕ → Bool → Lit
 lit_of v s = record { var = v; positive = s }
@@ -191,23 +191,36 @@ value_sign steps places lit p true false h v x y = (p, h, same_lit _ _ v (x ∙ 
 value_sign steps places lit p false true h v x y = (p, h, same_lit _ _ v (x ∙ sym (ap not y)))
 value_sign steps places lit p false false h v x y = (p, h, same_lit _ _ v (x ∙ sym y))
 
-pub value_at : (steps : List Step) (places : List (Option ℕ)) (lit : Lit) (p : ℕ) (s : Step) → IsTrail steps places
-    → get_or places (lit.var) None ≡ Some p → s ≡ get_or steps p s
-    → ValueIs steps places lit (Some (beq s.lit.positive lit.positive))
-value_at steps places lit p s trail at read =
-    let on = trail.stands (lit.var) p at in
-    let same : s ≡ step_at steps p = get_or_read steps p s on.0 read no_step in
-    value_sign steps places lit p s.lit.positive lit.positive on.0 on.1 (ap (λ (t : Step). t.lit.positive) (sym same)) refl
+-- a variable with a value has a place, where a literal of that sign stands
+place_of_value : (steps : List Step) (place : Option ℕ) (b : Bool) → value_of steps place ≡ Some b
+    → (p : ℕ) × (place ≡ Some p) × ((lit_at steps p).positive ≡ b)
+place_of_value steps None b e = cc
+place_of_value steps (Some p) b e = (p, refl, cc)
 
--- the sign of the step at a variable's place is the sign of each of its literals that was made true
-pub sign_at : (steps : List Step) (places : List (Option ℕ)) (var p : ℕ) (s : Step) → IsTrail steps places
-    → get_or places var None ≡ Some p → s ≡ get_or steps p s → (lit : Lit) → MadeTrue steps (length steps) lit
-    → lit.var ≡ var → s.lit.positive ≡ lit.positive
-sign_at steps places var p s trail at read lit t e =
-    let on = trail.stands var p at in
-    let same : s ≡ step_at steps p = get_or_read steps p s on.0 read no_step in
-    let place : p ≡ t.0 = one_place steps places trail p t.0 on.0 t.1 (on.1 ∙ sym e ∙ ap (λ (l : Lit). l.var) (sym t.2)) in
-    ap (λ (x : Step). x.lit.positive) same ∙ ap (λ q. (lit_at steps q).positive) place ∙ ap (λ (l : Lit). l.positive) t.2
+pub none_of_value : (steps : List Step) (place : Option ℕ) → value_of steps place ≡ None → place ≡ None
+none_of_value steps None e = refl
+none_of_value steps (Some p) e = cc
+
+pub value_of_none : (steps : List Step) (place : Option ℕ) → place ≡ None → value_of steps place ≡ None
+value_of_none steps None e = refl
+value_of_none steps (Some p) e = cc
+
+pub value_by_sign : (steps : List Step) (places : List (Option ℕ)) (lit : Lit) (b : Bool) → IsTrail steps places
+    → value_of steps (get_or places (lit.var) None) ≡ Some b → ValueIs steps places lit (Some (beq b lit.positive))
+value_by_sign steps places lit b trail told =
+    let at = place_of_value steps (get_or places (lit.var) None) b told in
+    let on = trail.stands (lit.var) at.0 at.1 in
+    value_sign steps places lit at.0 b lit.positive on.0 on.1 at.2 refl
+
+-- the value of a variable is the sign of each of its literals that was made true
+pub sign_by_value : (steps : List Step) (places : List (Option ℕ)) (var : ℕ) (b : Bool) → IsTrail steps places
+    → value_of steps (get_or places var None) ≡ Some b → (lit : Lit) → MadeTrue steps (length steps) lit
+    → lit.var ≡ var → b ≡ lit.positive
+sign_by_value steps places var b trail told lit t e =
+    let at = place_of_value steps (get_or places var None) b told in
+    let on = trail.stands var at.0 at.1 in
+    let place : at.0 ≡ t.0 = one_place steps places trail at.0 t.0 on.0 t.1 (on.1 ∙ sym e ∙ ap (λ (l : Lit). l.var) (sym t.2)) in
+    sym at.2 ∙ ap (λ q. (lit_at steps q).positive) place ∙ ap (λ (l : Lit). l.positive) t.2
 
 pub no_sign : (steps : List Step) (places : List (Option ℕ)) (var : ℕ) (b : Bool) → IsTrail steps places
     → get_or places var None ≡ None → (lit : Lit) → MadeTrue steps (length steps) lit → lit.var ≡ var

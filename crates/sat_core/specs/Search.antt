@@ -125,6 +125,11 @@ pub record IsTrail (steps : List Step) (places : List (Option ℕ)) : Type 0 whe
   pub placed : (place : ℕ) → place < length steps → slice_index_or places ((lit_at steps place).var) None ≡ Some place
   pub counted : length steps + unassigned_count places ≡ length places
 
+-- the value of a variable by its place: the sign of the literal that stands there
+abbrev pub value_of : List Step → Option ℕ → Option Bool
+value_of steps None = None
+value_of steps (Some place) = Some (lit_at steps place).positive
+
 -- a variable has no value
 abbrev pub IsUnassigned : List Step → ℕ → Type 0
 IsUnassigned steps var = (p : ℕ) → p < length steps → (lit_at steps p).var ≡ var → ⊥

@@ -78,7 +78,7 @@ fn next_waiting(waiting: &Trail, trail: &Trail, from: &mut usize) -> Option<Step
     while *from < waiting.len() {
         let step = waiting.step(*from);
         *from += 1;
-        if trail.place(step.lit.var).is_none() {
+        if trail.is_free(step.lit.var) {
             return Some(step);
         }
     }
@@ -115,7 +115,7 @@ fn next_decision(phases: &[bool], trail: &Trail, from: &mut usize) -> Option<Lit
     while *from < phases.len() {
         let var = *from;
         *from += 1;
-        if trail.place(var).is_none() {
+        if trail.is_free(var) {
             return Some(Lit {
                 var,
                 positive: phases[var],

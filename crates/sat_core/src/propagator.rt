@@ -228,7 +228,7 @@ impl Propagator {
         ensures references { self.new.references.items ≡ self.old.references.items }
         ensures trail { self.new.trail ≡ self.old.trail }
     {
-        if self.waiting.place(lit.var).is_none() {
+        if self.waiting.is_free(lit.var) {
             let reason = Some(self.references[clause]);
             self.waiting.push(Step { lit, reason });
         }

@@ -1,11 +1,11 @@
-//! The trail: literals in the order in which they were made true, with the place of each variable.
+//! The trail: literals in the order in which they were made true, with the place and the value of each variable.
 //! `push` and `backtrack` change it; neither takes memory.
 
 ghost use Rattle.std.specs.Prelude.{◌≡◌, ◌<◌, ◌≤◌, ◌+◌, ◌∷◌, ◌++◌, ◌↔◌, ℕ, [], true, false, length, take, IsTrue, IfOk};
-ghost use Rattle.std.specs.Prelude.{IfSome, OnOk, OnErr, MatchOption, slice_index_or, vec_len, vec_capacity};
+ghost use Rattle.std.specs.Prelude.{None, IfSome, OnOk, OnErr, MatchOption, slice_index_or, vec_len, vec_capacity};
 ghost use Rattle.cnf.specs.declared.lit.Lit.{Lit};
 ghost use Rattle.cnf.specs.Clauses.{opposite};
-ghost use Rattle.sat_core.specs.Search.{step_at, lit_at, MadeTrue, IsUnassigned, IsTrail, opens_level, ValueIs};
+ghost use Rattle.sat_core.specs.Search.{step_at, lit_at, MadeTrue, IsUnassigned, IsTrail, opens_level, ValueIs, value_of};
 
 use crate::clause_ref::ClauseRef;
 use crate::room::push_within;
@@ -20,14 +20,19 @@ pub struct Step {
     pub reason: Option<ClauseRef>,
 }
 
-/// Literals with distinct variables, in order, and the place of each variable among them.
+/// Literals with distinct variables, in order, and the place of each variable among them, with the sign of the
+/// literal that stands there.
 ///
 /// There is always room for a step of each variable.
 #[derive(Debug, Drop)]
 pub struct Trail {
     pub steps: Vec<Step>,
     pub places: Vec<Option<usize>>,
+    pub values: Vec<Option<bool>>,
     ghost room: { length places.items ≤ vec_capacity steps },
+    ghost valued: { length values.items ≡ length places.items },
+    ghost values_stand: { (var : ℕ) → slice_index_or values.items var None
+        ≡ value_of steps.items (slice_index_or places.items var None) },
 }
 
 /// Whether a step opens a level: it is a decision or an assumption.
@@ -51,6 +56,7 @@ impl Trail {
         Trail {
             steps: Vec::new(alloc),
             places: Vec::new(alloc),
+            values: Vec::new(alloc),
         }
     }
 
@@ -60,7 +66,9 @@ impl Trail {
         ensures places { self.new.places.items ≡ self.old.places.items }
         ensures steps_room { OnOk result (length self.new.places.items < vec_capacity self.new.steps) }
         ensures places_room { OnOk result (length self.new.places.items < vec_capacity self.new.places) }
+        ensures values_room { OnOk result (length self.new.values.items < vec_capacity self.new.values) }
     {
+        self.values.reserve(1)?;
         self.places.reserve(1)?;
         self.steps.reserve(self.places.len() + 1)?;
         Ok(())
@@ -70,10 +78,12 @@ impl Trail {
     pub fn add_var(&mut self)
         requires steps_room { length self.old.places.items < vec_capacity self.old.steps }
         requires places_room { length self.old.places.items < vec_capacity self.old.places }
+        requires values_room { length self.old.values.items < vec_capacity self.old.values }
         ensures steps { self.new.steps.items ≡ self.old.steps.items }
         ensures places { self.new.places.items ≡ self.old.places.items ++ None ∷ [] }
     {
         push_within(&mut self.places, None);
+        push_within(&mut self.values, None);
     }
 
     /// The number of literals made true.
@@ -99,15 +109,23 @@ impl Trail {
         self.places[var]
     }
 
+    /// Whether a variable has no value.
+    pub fn is_free(&self, var: usize) -> bool
+        requires { var < length self.now.places.items }
+        ensures { IsTrue result ↔ (slice_index_or self.now.places.items var None ≡ None) }
+    {
+        self.values[var].is_none()
+    }
+
     /// Whether a literal is true or false, none where its variable has no value.
     pub fn value(&self, lit: Lit) -> Option<bool>
         requires trail { IsTrail self.now.steps.items self.now.places.items }
         requires var { lit.var < length self.now.places.items }
         ensures { ValueIs self.now.steps.items self.now.places.items lit result }
     {
-        match self.places[lit.var] {
+        match self.values[lit.var] {
             None => None,
-            Some(place) => Some(self.steps[place].lit.positive == lit.positive),
+            Some(positive) => Some(positive == lit.positive),
         }
     }
 
@@ -134,9 +152,9 @@ impl Trail {
         ensures { (lit : Lit) → MadeTrue self.now.steps.items (length self.now.steps.items) lit → lit.var ≡ var
             → result ≡ lit.positive }
     {
-        match self.places[var] {
+        match self.values[var] {
             None => false,
-            Some(place) => self.steps[place].lit.positive,
+            Some(positive) => positive,
         }
     }
 
@@ -152,6 +170,7 @@ impl Trail {
         let place = self.steps.len();
         push_within(&mut self.steps, step);
         self.places[step.lit.var] = Some(place);
+        self.values[step.lit.var] = Some(step.lit.positive);
     }
 
     /// Takes back all but the first `keep` steps.
@@ -164,6 +183,7 @@ impl Trail {
         while self.steps.len() > keep {
             if let Some(step) = self.steps.pop() {
                 self.places[step.lit.var] = None;
+                self.values[step.lit.var] = None;
             }
         }
     }

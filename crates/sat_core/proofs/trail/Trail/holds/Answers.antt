@@ -1,24 +1,20 @@
-use Rattle.std.proofs.Common.{arith, None, sym, ◌∙◌, false}
+use Rattle.std.proofs.Common.{arith, None, sym, ◌∙◌, false, ◌<◌, length}
 use Rattle.std.proofs.lemmas.List.{get_or_read}
-use Rattle.sat_core.proofs.Trails.{sign_at, no_sign}
+use Rattle.sat_core.proofs.Trails.{sign_by_value, none_of_value, no_sign}
 use Rattle.sat_core.proofs.trail.Trail.holds.Goals as goal
-
-pub index-requires-in-Some : goal.index-requires-in-Some
-index-requires-in-Some c =
-    let places = c.args.self.now.places.items in
-    let read = get_or_read places c.args.var c.index.result.now c.requires.var c.index.ensures None in
-    let on = c.requires.trail.stands c.args.var c.in-Some.place (sym read ∙ c.in-Some.is) in
-    omega (arith, on.0, c.args.self.now.steps.ok.0)
 
 pub returns-in-Some : goal.returns-in-Some
 returns-in-Some c =
-    let places = c.args.self.now.places.items in
-    let read = get_or_read places c.args.var c.index.result.now c.requires.var c.index.ensures None in
-    sign_at c.args.self.now.steps.items places c.args.var c.in-Some.place c.index-in-Some.result.now c.requires.trail
-    (sym read ∙ c.in-Some.is) c.index-in-Some.ensures
+    let s = c.args.self.now in
+    let within : c.args.var < length s.values.items = omega (arith, c.requires.var, s.valued) in
+    let read = get_or_read s.values.items c.args.var c.index.result.now within c.index.ensures None in
+    sign_by_value s.steps.items s.places.items c.args.var c.in-Some.positive c.requires.trail
+    (sym (s.values_stand c.args.var) ∙ sym read ∙ c.in-Some.is)
 
 pub returns-in-None : goal.returns-in-None
 returns-in-None c =
-    let places = c.args.self.now.places.items in
-    let read = get_or_read places c.args.var c.index.result.now c.requires.var c.index.ensures None in
-    no_sign c.args.self.now.steps.items places c.args.var false c.requires.trail (sym read ∙ c.in-None.is)
+    let s = c.args.self.now in
+    let within : c.args.var < length s.values.items = omega (arith, c.requires.var, s.valued) in
+    let read = get_or_read s.values.items c.args.var c.index.result.now within c.index.ensures None in
+    no_sign s.steps.items s.places.items c.args.var false c.requires.trail
+    (none_of_value s.steps.items _ (sym (s.values_stand c.args.var) ∙ sym read ∙ c.in-None.is))
