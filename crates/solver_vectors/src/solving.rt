@@ -170,3 +170,29 @@ fn an_assumption_forces_the_other_literal(rt: HostRuntime) -> Result<(), Fail> {
     assert_eq!(rt; value(&mut solver, lit(-2), 0)?, Some(true));
     Ok(())
 }
+
+// Assumptions in turn, and whether the clauses of the next test have a model under them.
+const CHANGING: [(&[i32], bool); 6] = [
+    (&[], true),
+    (&[-4], false),
+    (&[-1], true),
+    (&[-1, -2], false),
+    (&[4], true),
+    (&[3, -4], false),
+];
+
+// One solver keeps what it learnt, and answers each question as if it were the first.
+#[test]
+fn changing_assumptions(rt: HostRuntime) -> Result<(), Fail> {
+    let alloc = rt.alloc();
+    let clauses = clauses_of_numbers(alloc, &[1, 2, 0, -1, 3, 0, -2, 3, 0, -3, 4, 0])?;
+    let mut solver = solver_of(alloc, 4, &clauses)?;
+    for (assumed, expected) in CHANGING {
+        let assumptions = lits(alloc, assumed)?;
+        assert_eq!(rt;
+            answer(alloc, &mut solver, &clauses, &assumptions)?,
+            Some(expected)
+        );
+    }
+    Ok(())
+}
