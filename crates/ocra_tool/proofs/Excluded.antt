@@ -19,7 +19,7 @@ use Rattle.ocra_tool.specs.Files.{IsSoleTreeOf, IsSpecOf, IsSpecification, IsSol
 use Rattle.ocra_tool.specs.Files.{IsSyntaxFault, IsTreeFault, IsLevelFault}
 use Rattle.ocra_tool.specs.Laws.{SoundHasNoFault, SoundHasNoSecondFault}
 use Rattle.ocra_tool.specs.Tasks.{LassoBreak, task_width}
-use Rattle.ocra_tool.specs.Words.{CheckFile, ReplayLasso}
+use Rattle.ocra_tool.specs.Words.{CheckFile, ReplayLasso, PrintFile}
 use Rattle.levels.specs.LevelFaults.{first_level_fault}
 
 too_long : (bytes : List ℕ) → most_bytes < length bytes → length bytes ≤ most_bytes → ⊥
@@ -72,6 +72,7 @@ pub sound_has_no_second_fault : LassosDontBreak → SoundHasNoSecondFault
 sound_has_no_second_fault whole (CheckFile file depth width) bytes second fault a f = f
 sound_has_no_second_fault whole (ReplayLasso file lasso) bytes second (LassoBreak line) a f =
     no_break whole second a.0 f.0 a.2 line (f.1.only a.0 a.1) a.3 f.2
+sound_has_no_second_fault whole (PrintFile file) bytes second fault a f = f
 
 -- One tree, one specification.
 pub sole_spec : StandsIsUnique → (width : ℕ) (bytes : List ℕ) (all : List Component) (s : Spec) → IsSoleTreeOf bytes all → IsSpecOf bytes all s

@@ -2,6 +2,7 @@ pub mod Checked
 pub mod Excluded
 pub mod GivenWords
 pub mod Numbers
+pub mod Printed
 pub mod Ranges
 pub mod Reading
 pub mod Replayed

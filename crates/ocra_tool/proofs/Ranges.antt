@@ -2,11 +2,11 @@
 use Rattle.std.specs.Prelude.{if◌then◌else◌, cond, bytes_eq, codes, decimal, option_map, option_and_then}
 use Rattle.std.proofs.Common.{◌≡◌, ℕ, zero, suc, ◌+◌, ◌<◌, ◌≤◌, Bool, true, false, List, [], ◌∷◌, Option, Some, None, IfSome, subst, sym, arith}
 use Rattle.ocra_tool.specs.declared.words.Command.{Command}
-use Rattle.ocra_tool.specs.declared.words.Command.TheVariants.{Check, Replay}
+use Rattle.ocra_tool.specs.declared.words.Command.TheVariants.{Check, Replay, Print}
 use Rattle.ocra_tool.specs.Commands.{task_meant, IsInRange}
-use Rattle.ocra_tool.specs.Words.{Arguments, Task, CheckFile, ReplayLasso, arguments, with_operand, with_depth, with_width, number_up_to}
+use Rattle.ocra_tool.specs.Words.{Arguments, Task, CheckFile, ReplayLasso, PrintFile, arguments, with_operand, with_depth, with_width, number_up_to}
 use Rattle.oss_io.specs.Operands.{is_operand}
-use Rattle.ocra_tool.specs.Words.{most_depth, most_width, check_with, replay_with, task_with, words_mean}
+use Rattle.ocra_tool.specs.Words.{most_depth, most_width, check_with, replay_with, print_with, task_with, words_mean}
 use Rattle.ocra_tool.proofs.Numbers.{among}
 
 weaken : {X : Type 0} {P Q : X → Type 0} (o : Option X) → ((x : X) → P x → Q x) → IfSome o P → IfSome o Q
@@ -79,6 +79,7 @@ bounds (word ∷ next ∷ words) =
 abbrev HasBounds : Task → Type 0
 HasBounds (CheckFile file depth width) = (1 ≤ depth) × (depth ≤ most_depth) × (1 ≤ width) × (width ≤ most_width)
 HasBounds (ReplayLasso file lasso) = Unit {0}
+HasBounds (PrintFile file) = Unit {0}
 
 check_bounds : (os : List (List ℕ)) (ds ws : List ℕ) → AreUpTo most_depth ds → AreUpTo most_width ws → IfSome (check_with os ds ws) HasBounds
 check_bounds [] ds ws d w = tt
@@ -99,14 +100,25 @@ replay_bounds (f ∷ l ∷ []) [] (n ∷ ws) = tt
 replay_bounds (f ∷ l ∷ []) (k ∷ ds) ws = tt
 replay_bounds (f ∷ l ∷ m ∷ os) ds ws = tt
 
+print_bounds : (os : List (List ℕ)) (ds ws : List ℕ) → IfSome (print_with os ds ws) HasBounds
+print_bounds [] ds ws = tt
+print_bounds (f ∷ []) [] [] = tt
+print_bounds (f ∷ []) [] (n ∷ ws) = tt
+print_bounds (f ∷ []) (k ∷ ds) ws = tt
+print_bounds (f ∷ g ∷ os) ds ws = tt
+
 task_bounds : (command : List ℕ) (o : Option Arguments) → IfSome o HaveBounds → IfSome (option_and_then (task_with command) o) HasBounds
 task_bounds command None h = tt
 task_bounds command (Some a) h =
     either HasBounds (bytes_eq command (codes "check")) (check_with a.operands a.depths a.widths)
-    (if bytes_eq command (codes "replay") then replay_with a.operands a.depths a.widths else None)
+    (if bytes_eq command (codes "replay") then replay_with a.operands a.depths a.widths
+    else (if bytes_eq command (codes "print") then print_with a.operands a.depths a.widths else None))
     (check_bounds a.operands a.depths a.widths h.0 h.1)
-    (either HasBounds (bytes_eq command (codes "replay")) (replay_with a.operands a.depths a.widths) None
-    (replay_bounds a.operands a.depths a.widths) tt)
+    (either HasBounds (bytes_eq command (codes "replay")) (replay_with a.operands a.depths a.widths)
+    (if bytes_eq command (codes "print") then print_with a.operands a.depths a.widths else None)
+    (replay_bounds a.operands a.depths a.widths)
+    (either HasBounds (bytes_eq command (codes "print")) (print_with a.operands a.depths a.widths) None
+    (print_bounds a.operands a.depths a.widths) tt))
 
 words_bounds : (words : List (List ℕ)) → IfSome (words_mean words) HasBounds
 words_bounds [] = tt
@@ -115,6 +127,7 @@ words_bounds (command ∷ words) = task_bounds command (arguments words) (bounds
 of_command : (command : Command) → HasBounds (task_meant command) → IsInRange command
 of_command (Check file depth width) h = h
 of_command (Replay file lasso) h = tt
+of_command (Print file) h = tt
 
 pub command_in_range : (command : Command) (words : List (List ℕ)) → Some (task_meant command) ≡ words_mean words → IsInRange command
 command_in_range command words is = of_command command (subst (λ (o : Option Task). IfSome o HasBounds) (sym is) (words_bounds words))

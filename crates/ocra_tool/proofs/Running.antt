@@ -6,21 +6,25 @@ use Rattle.obligations.specs.Systems.{IsSafe}
 use Rattle.ocra_tool.specs.Answers.{OfFile, OfFiles, IfHeld}
 use Rattle.ocra_tool.specs.Files.{IsSpecification}
 use Rattle.ocra_tool.specs.Laws.{SoundHasNoFault, SoundHasNoSecondFault}
+use Rattle.ocra_tool.specs.Outcomes.{MayBeUnread}
 use Rattle.ocra_tool.specs.Tasks.{SecondFault, LassoBreak, first_file, second_file, second_bytes, IfBoth, IsSound, IsFaultFor, HasFaultFor, AreSound}
 use Rattle.ocra_tool.specs.Tasks.{IsSecondFaultFor, HasSecondFaultFor, IsStatusOf, IsAnswerTo}
-use Rattle.ocra_tool.specs.Words.{Task, CheckFile, ReplayLasso}
+use Rattle.ocra_tool.specs.Words.{Task, CheckFile, ReplayLasso, PrintFile}
 
 first_sound : (t : Task) (b s : List ℕ) → AreSound t b s → IsSound t b
 first_sound (CheckFile file depth width) b s a = a
 first_sound (ReplayLasso file lasso) b s a = (a.0, a.1)
+first_sound (PrintFile file) b s a = a
 
 answer_sound : (t : Task) (b s text : List ℕ) (ended : ℕ) → IsAnswerTo t b s text ended → AreSound t b s
 answer_sound (CheckFile file depth width) b s text ended a = (a.report.spec, a.report.described)
 answer_sound (ReplayLasso file lasso) b s text ended a = (a.0.replay.spec, a.0.sole.is, a.0.replay.named, a.0.replay.lasso)
+answer_sound (PrintFile file) b s text ended a = (a.0.spec, a.0.described)
 
 second_fault_sound : (t : Task) (b s : List ℕ) (fault : SecondFault) → IsSecondFaultFor t b s fault → IsSound t b
 second_fault_sound (CheckFile file depth width) b s fault f = absurd f
 second_fault_sound (ReplayLasso file lasso) b s (LassoBreak line) f = (f.0, f.1.is)
+second_fault_sound (PrintFile file) b s fault f = absurd f
 
 of_first : {P : List ℕ → Type 0} {Q : List ℕ → List ℕ → Type 0} (told other : Option (List ℕ)) → ((b s : List ℕ) → P b → Q b s) → IfSome told P
     → IfBoth told other Q
@@ -106,6 +110,12 @@ pub whole_answer : (task : Option Task) (t : Task) → task ≡ Some t → (held
 whole_answer task t is held text ended P whole status sound has =
     subst (λ o. IfSome o (λ u. IsStatusOf u ended × (x : List ℕ) × P x × IfSome (held (first_file u)) (IsSound u)
     × IfHeld u held (λ b s. IsAnswerTo u b s x ended))) (sym is) (status, text, whole, sound, has)
+
+-- The file that could not be read.
+pub unread_file : (task : Option Task) (t : Task) → task ≡ Some t → (held : List ℕ → Option (List ℕ)) (name : List ℕ) (P : List ℕ → Type 0)
+    → P name → MayBeUnread t (held (first_file t)) name → IfSome task (λ u. (x : List ℕ) × MayBeUnread u (held (first_file u)) x × P x)
+unread_file task t is held name P said unread =
+    subst (λ o. IfSome o (λ u. (x : List ℕ) × MayBeUnread u (held (first_file u)) x × P x)) (sym is) (name, unread, said)
 
 -- A check that ends with 0.
 

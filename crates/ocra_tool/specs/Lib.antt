@@ -6,6 +6,7 @@ pub mod Given
 pub mod Laws
 pub mod Lines
 pub mod Outcomes
+pub mod Prints
 pub mod Replays
 pub mod Reporting
 pub mod Statuses

@@ -9,9 +9,10 @@ use Rattle.replay.specs.LassoFiles.{IsLasso, IsBreak}
 use Rattle.ocra_tool.specs.Decided.{IsChecked}
 use Rattle.ocra_tool.specs.Files.{IsSpecification, IsSoleSpecification, IsFaultOf}
 use Rattle.ocra_tool.specs.Lines.{lasso_break_line}
+use Rattle.ocra_tool.specs.Prints.{IsPrintOf}
 use Rattle.ocra_tool.specs.Replays.{IsReplayOf}
 use Rattle.ocra_tool.specs.Statuses.{IsDone}
-use Rattle.ocra_tool.specs.Words.{Task, CheckFile, ReplayLasso, default_width}
+use Rattle.ocra_tool.specs.Words.{Task, CheckFile, ReplayLasso, PrintFile, default_width}
 
 -- What a second file is refused for.
 pub data SecondFault : Type 0 where
@@ -26,15 +27,18 @@ second_fault_line name (LassoBreak line) = lasso_break_line name line
 abbrev pub first_file : Task → List ℕ
 first_file (CheckFile file depth width) = file
 first_file (ReplayLasso file lasso) = file
+first_file (PrintFile file) = file
 
 abbrev pub second_file : Task → Option (List ℕ)
 second_file (CheckFile file depth width) = None
 second_file (ReplayLasso file lasso) = Some lasso
+second_file (PrintFile file) = None
 
 -- the width at which FILE is read
 abbrev pub task_width : Task → ℕ
 task_width (CheckFile file depth width) = width
 task_width (ReplayLasso file lasso) = default_width
+task_width (PrintFile file) = default_width
 
 -- the bytes of the second file, where they are told; where there is no such file there are none
 abbrev pub second_bytes : Option (List ℕ) → (List ℕ → Option (List ℕ)) → Option (List ℕ)
@@ -69,12 +73,14 @@ abbrev pub AreSound : Task → List ℕ → List ℕ → Type 0
 AreSound (CheckFile file depth width) bytes second = (spec : Spec) × IsSpecification width bytes spec
 AreSound (ReplayLasso file lasso) bytes second =
     (spec : Spec) × IsSpecification default_width bytes spec × (named : NamedLasso) × IsLasso spec second named
+AreSound (PrintFile file) bytes second = (spec : Spec) × IsSpecification default_width bytes spec
 
 -- FILE has none, and this is that of the second file.
 abbrev pub IsSecondFaultFor : Task → List ℕ → List ℕ → SecondFault → Type 0
 IsSecondFaultFor (CheckFile file depth width) bytes second fault = ⊥
 IsSecondFaultFor (ReplayLasso file lasso) bytes second (LassoBreak line) =
     (spec : Spec) × IsSoleSpecification default_width bytes spec × IsBreak spec second line
+IsSecondFaultFor (PrintFile file) bytes second fault = ⊥
 
 abbrev pub HasSecondFaultFor : Task → List ℕ → List ℕ → Type 0
 HasSecondFaultFor task bytes second = (fault : SecondFault) × IsSecondFaultFor task bytes second fault
@@ -85,8 +91,10 @@ HasSecondFaultFor task bytes second = (fault : SecondFault) × IsSecondFaultFor 
 abbrev pub IsStatusOf : Task → ℕ → Type 0
 IsStatusOf (CheckFile file depth width) status = IsDone status
 IsStatusOf (ReplayLasso file lasso) status = status ≡ 0
+IsStatusOf (PrintFile file) status = status ≡ 0
 
 -- The task is answered by this text and this status.
 abbrev pub IsAnswerTo : Task → List ℕ → List ℕ → List ℕ → ℕ → Type 0
 IsAnswerTo (CheckFile file depth width) bytes second text status = IsChecked depth width bytes text status
 IsAnswerTo (ReplayLasso file lasso) bytes second text status = IsReplayOf bytes second text × (status ≡ 0)
+IsAnswerTo (PrintFile file) bytes second text status = IsPrintOf bytes text × (status ≡ 0)

@@ -17,6 +17,8 @@ pub data Task : Type 0 where
   CheckFile : List ℕ → ℕ → ℕ → Task
   -- what the lasso in the second of these files says of the contracts of the first
   ReplayLasso : List ℕ → List ℕ → Task
+  -- the canonical text of the file of this name
+  PrintFile : List ℕ → Task
 
 abbrev pub most_depth : ℕ
 most_depth = 32
@@ -79,10 +81,16 @@ abbrev pub replay_with : List (List ℕ) → List ℕ → List ℕ → Option Ta
 replay_with (file ∷ lasso ∷ []) [] [] = Some (ReplayLasso file lasso)
 replay_with operands depths widths = None
 
+-- `print` has one operand and no option
+abbrev pub print_with : List (List ℕ) → List ℕ → List ℕ → Option Task
+print_with (file ∷ []) [] [] = Some (PrintFile file)
+print_with operands depths widths = None
+
 abbrev pub task_with : List ℕ → Arguments → Option Task
 task_with command a =
     if bytes_eq command (codes "check") then check_with a.operands a.depths a.widths
-    else (if bytes_eq command (codes "replay") then replay_with a.operands a.depths a.widths else None)
+    else (if bytes_eq command (codes "replay") then replay_with a.operands a.depths a.widths
+    else (if bytes_eq command (codes "print") then print_with a.operands a.depths a.widths else None))
 
 -- The task that the words mean, if they mean one.
 abbrev pub words_mean : List (List ℕ) → Option Task

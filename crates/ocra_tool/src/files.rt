@@ -26,9 +26,11 @@ use port_types::NoMemory;
 use spec_model::Spec;
 use std::alloc::Global;
 
-/// The specification that the bytes of a file stand for, and its levels, in the order of its items.
+/// The tree of the text that the bytes of a file are, the specification that it stands for, and its levels, in the order
+/// of its items.
 #[derive(Drop)]
 pub struct SourceFile {
+    pub tree: SpecTree,
     pub spec: Spec,
     pub levels: LevelList,
 }
@@ -38,6 +40,7 @@ pub fn described(alloc: Global, bytes: &[u8], width: u8) -> Result<SourceFile, S
     requires short { length bytes.now ≤ most_bytes }
     requires least { 1 ≤ width }
     requires most { width ≤ 3 }
+    ensures tree { IfOk result (λ source. IsSoleTreeOf bytes.now (component_trees source.tree)) }
     ensures sole { IfOk result (λ source. IsSoleSpecification width bytes.now source.spec) }
     ensures levels { IfOk result (λ source. AreLevels source.spec source.spec.items source.levels) }
     ensures fault { IfFault result (IsFaultOf width bytes.now) }
@@ -45,7 +48,7 @@ pub fn described(alloc: Global, bytes: &[u8], width: u8) -> Result<SourceFile, S
     let tree = tree_of(alloc, bytes)?;
     let spec = spec_of(alloc, bytes, &tree)?;
     let levels = levels_of(alloc, bytes, &tree, &spec, width)?;
-    Ok(SourceFile { spec, levels })
+    Ok(SourceFile { tree, spec, levels })
 }
 
 /// The tree of the text that the bytes are, or the first fault of its size, its tokens or its syntax.

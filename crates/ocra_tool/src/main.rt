@@ -10,6 +10,7 @@ mod given;
 mod laws;
 mod lines;
 mod outcome;
+mod printing;
 mod replaying;
 #[cfg(test)]
 mod tests;

@@ -22,6 +22,7 @@ use crate::check::check_file;
 use crate::laws::sound_files_have_no_fault;
 use crate::lines::{say_no_memory, say_read_fault, say_usage, say_write_fault};
 use crate::outcome::Outcome;
+use crate::printing::print_file;
 use crate::replaying::replay_files;
 use crate::words::{Command, parse_words};
 use oss_io::{Failed, Shelf, Sink, say, write_all};
@@ -51,7 +52,8 @@ pub fn run<F: Shelf, O: Sink, E: Sink>(
     // the task is answered by this text and this status. Of `check`: the file's bytes are a specification of
     // which the text is the report, what it says is proved is valid, and the status is 1 exactly where the
     // report has something refuted, 2 where it has none and something undecided. Of `replay`: the text is that
-    // of the judgements, and the status is 0.
+    // of the judgements, and the status is 0. Of `print`: the text is the canonical text of the file, and the
+    // status is 0.
     ensures done { IsDone result → IfSome (task_of words.now) (λ task. IsStatusOf task result × (text : List ℕ) ×
         Appends (O.taken out.old) (O.taken out.new) text
         × IfSome (F.held shelf.old (first_file task)) (IsSound task)
@@ -178,5 +180,6 @@ fn outcome_of<'a, F: Shelf>(alloc: Global, command: Command<'a>, shelf: &mut F) 
     match command {
         Command::Check { file, depth, width } => check_file(alloc, file, depth, width, shelf),
         Command::Replay { file, lasso } => replay_files(alloc, file, lasso, shelf),
+        Command::Print { file } => print_file(alloc, file, shelf),
     }
 }

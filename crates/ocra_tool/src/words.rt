@@ -3,7 +3,8 @@
 ghost use Rattle.std.specs.Prelude.{◌≡◌, option_map};
 ghost use Rattle.ocra_tool.specs.Commands.{task_meant};
 ghost use Rattle.ocra_tool.specs.Given.{arguments_meant};
-ghost use Rattle.ocra_tool.specs.Words.{check_with as task_to_check, replay_with as task_to_replay, task_of, task_with};
+ghost use Rattle.ocra_tool.specs.Words.{check_with as task_to_check, replay_with as task_to_replay, print_with as task_to_print};
+ghost use Rattle.ocra_tool.specs.Words.{task_of, task_with};
 
 use crate::given::{Given, Operands, given_by};
 
@@ -18,6 +19,7 @@ pub const DEFAULT_WIDTH: u8 = 2;
 pub enum Command<'a> {
     Check { file: &'a str, depth: u8, width: u8 },
     Replay { file: &'a str, lasso: &'a str },
+    Print { file: &'a str },
 }
 
 /// The command that the words mean, None exactly where they mean none. It takes no memory.
@@ -37,6 +39,7 @@ fn command_with<'a>(command: &str, given: Given<'a>) -> Option<Command<'a>>
     match command {
         "check" => check_with(given),
         "replay" => replay_with(given),
+        "print" => print_with(given),
         _ => None,
     }
 }
@@ -63,6 +66,17 @@ fn replay_with(given: Given<'_>) -> Option<Command<'_>>
 {
     match (given.operands, given.depth, given.width) {
         (Operands::Two(file, lasso), None, None) => Some(Command::Replay { file, lasso }),
+        _ => None,
+    }
+}
+
+/// `print` with these arguments: one operand and no option.
+fn print_with(given: Given<'_>) -> Option<Command<'_>>
+    ensures { let a = arguments_meant given.entry in
+        option_map task_meant result ≡ task_to_print a.operands a.depths a.widths }
+{
+    match (given.operands, given.depth, given.width) {
+        (Operands::One(file), None, None) => Some(Command::Print { file }),
         _ => None,
     }
 }

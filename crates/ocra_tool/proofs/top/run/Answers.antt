@@ -2,13 +2,14 @@ use Rattle.std.proofs.Common.{sym, ap, ◌∙◌, ◌≡◌, ◌⊎◌, ℕ, Lis
 use Rattle.std.proofs.Math.Logic.{inl}
 use Rattle.std.specs.Option.{option_map}
 use Rattle.std.specs.Io.KnownBytes.{Appends}
-use Rattle.oss_io.specs.Outside.{AppendsFront}
+use Rattle.oss_io.specs.Outside.{AppendsFront, Says}
 use Rattle.ocra_tool.specs.Commands.{task_meant}
+use Rattle.ocra_tool.specs.Lines.{read_fault_line}
 use Rattle.ocra_tool.specs.Tasks.{IsStatusOf}
 use Rattle.ocra_tool.specs.Words.{Task, task_of}
 use Rattle.ocra_tool.proofs.Ranges.{command_in_range}
 use Rattle.ocra_tool.proofs.Running.{sound_not_faulty, faulty_not_sound, faulty_not_second, answered_not_second, second_not_sound}
-use Rattle.ocra_tool.proofs.Running.{second_refused, front_of_answer, whole_answer, safe_check}
+use Rattle.ocra_tool.proofs.Running.{second_refused, front_of_answer, whole_answer, safe_check, unread_file}
 use Rattle.ocra_tool.proofs.top.run.Goals as goal
 
 pub returns-in-Refused-clause-complete_sound : goal.returns-in-Refused-clause-complete_sound
@@ -83,3 +84,11 @@ returns-in-Ok-clause-done g c = λ done.
 
 pub returns-in-Done-clause-complete_sound : goal.returns-in-Done-clause-complete_sound
 returns-in-Done-clause-complete_sound g c = λ q r. absurd (r c.in-Err.ensures.cause.failed)
+
+pub returns-in-ReadFault-clause-read_fault_line : goal.returns-in-ReadFault-clause-read_fault_line
+returns-in-ReadFault-clause-read_fault_line g c = λ five.
+    unread_file (task_of c.args.words.now) (task_meant c.in-Some.command) (sym c.parse_words.ensures ∙ ap (option_map task_meant) c.in-Some.is)
+    (g.F.Shelf.held c.args.shelf.now) c.in-ReadFault.file.now
+    (λ (x : List ℕ). Says (g.E.Sink.taken c.args.err.now) (g.E.Sink.taken c.say_read_fault.new.err) (g.E.Sink.faults c.args.err.now)
+    (g.E.Sink.faults c.say_read_fault.new.err) (read_fault_line x))
+    c.say_read_fault.ensures c.in-ReadFault.ensures.means.0
