@@ -1,5 +1,5 @@
 //! What a search does next where no clause is in conflict: `Engine::choose` takes a literal that waits, then
-//! a unit, then an assumption, then a decision. It may touch the cursors of the search alone.
+//! a unit, then an assumption, then a decision. It may touch the cursors of the search and the order of decisions alone.
 
 ghost use Rattle.std.specs.Prelude.{◌≡◌, ◌<◌, ◌≤◌, ℕ, None, length, IfSome, All, slice_index_or};
 ghost use Rattle.sat_core.specs.Search.{IsTrail, clause_lists, step_at};
@@ -8,6 +8,7 @@ ghost use Rattle.sat_core.specs.Watching.{NoConflict};
 ghost use Rattle.sat_core.specs.Engines.{IsSearching, Chooses};
 
 use crate::clause_ref::{ClauseRef, Database};
+use crate::decisions::{Decisions, OrderPlace};
 use crate::engine::Engine;
 use crate::trail::{Step, Trail};
 use cnf::Lit;
@@ -35,12 +36,13 @@ pub enum Pending {
 }
 
 /// How far a search has looked since it last went back: at the literals that wait, at the units, at the
-/// assumptions, and at the variables.
+/// assumptions, at the order of decisions, and at the variables by their numbers.
 #[derive(Clone, Copy, Debug)]
 pub struct Cursors {
     pub waiting: usize,
     pub units: usize,
     pub assumed: usize,
+    pub order: OrderPlace,
     pub vars: usize,
 }
 
@@ -53,6 +55,7 @@ impl Cursors {
             waiting: 0,
             units: 0,
             assumed: 0,
+            order: OrderPlace::Front,
             vars: 0,
         }
     }
@@ -63,6 +66,7 @@ impl Cursors {
     {
         self.waiting = 0;
         self.assumed = 0;
+        self.order = OrderPlace::Front;
         self.vars = 0;
     }
 }
@@ -104,7 +108,7 @@ fn next_pending(lits: &[Lit], trail: &Trail, from: &mut usize) -> Option<Pending
     None
 }
 
-/// The next variable without a value, with the value that it had last.
+/// The next variable by its number without a value, with the value that it had last.
 fn next_decision(phases: &[bool], trail: &Trail, from: &mut usize) -> Option<Lit>
     requires vars { length phases.now ≡ length trail.now.places.items }
     ensures some { IfSome result (λ lit. (lit.var < length trail.now.places.items)
@@ -183,7 +187,12 @@ impl Engine {
     }
 
     /// What the search does next where no clause is in conflict.
-    pub fn choose(&self, database: Database<'_>, cursors: &mut Cursors) -> Choice
+    pub fn choose(
+        &self,
+        database: Database<'_>,
+        cursors: &mut Cursors,
+        decisions: &mut Decisions,
+    ) -> Choice
         requires search { IsSearching database.added.now database.assumed.now self.now }
         requires quiet { NoConflict self.now.propagator.links self.now.propagator.trail.steps.items }
         requires seen { AreTrueTo self.now.propagator.trail.steps.items database.assumed.now cursors.old.assumed }
@@ -201,7 +210,8 @@ impl Engine {
         if let Some(pending) = next_pending(database.assumed, trail, &mut cursors.assumed) {
             return self.assumption_choice(database, pending);
         }
-        match next_decision(self.phases.as_slice(), trail, &mut cursors.vars) {
+        decisions.prefer_learnt(database.learnt);
+        match decisions.next(self.phases.as_slice(), trail, &mut cursors.order) {
             Some(lit) => Choice::Next(Step { lit, reason: None }),
             None => self.choose_anew(database, cursors),
         }

@@ -9,6 +9,7 @@ mod analyse;
 mod chain;
 mod clause_ref;
 mod decide;
+mod decisions;
 mod distinct;
 mod engine;
 mod learn;

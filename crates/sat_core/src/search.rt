@@ -17,6 +17,7 @@ use crate::analyse::refute;
 use crate::chain::Derivation;
 use crate::clause_ref::{ClauseRef, Database};
 use crate::decide::{Choice, Cursors};
+use crate::decisions::Decisions;
 use crate::engine::Engine;
 use crate::propagator::Propagation;
 use crate::trail::{Step, Trail};
@@ -63,6 +64,7 @@ impl Engine {
         added: &'a [Clause],
         assumed: &'a [Lit],
         cursors: &mut Cursors,
+        decisions: &mut Decisions,
     ) -> Choice
         requires search { IsSearching added.now assumed.now self.now }
         requires quiet { NoConflict self.now.propagator.links self.now.propagator.trail.steps.items }
@@ -75,7 +77,7 @@ impl Engine {
             learnt: self.learnt.clauses.as_slice(),
             assumed,
         };
-        self.choose(database, cursors)
+        self.choose(database, cursors, decisions)
     }
 
     /// The derivation of the empty clause where an assumption is false.
@@ -138,6 +140,7 @@ impl Engine {
         added: &'a [Clause],
         assumed: &'a [Lit],
         cursors: &mut Cursors,
+        decisions: &mut Decisions,
     ) -> Result<Found, NoMemory>
         requires search { IsSearching added.now assumed.now self.old }
         requires quiet { NoConflict self.old.propagator.links self.old.propagator.trail.steps.items }
@@ -150,7 +153,7 @@ impl Engine {
         ensures weight { IfOk result (λ found. found_weight self.new found
             < trail_weight self.old.propagator.trail.steps.items self.old.propagator.trail.places.items) }
     {
-        match self.choose_of(added, assumed, cursors) {
+        match self.choose_of(added, assumed, cursors, decisions) {
             Choice::Next(step) => Ok(Found::Next(step)),
             Choice::Falsified(reason) => {
                 cursors.back();
@@ -175,6 +178,7 @@ impl Engine {
         assumed: &'a [Lit],
         step: Step,
         cursors: &mut Cursors,
+        decisions: &mut Decisions,
         steps: &mut Steps<OneRun>,
     ) -> Result<Found, NoMemory>
         requires goes_on { TakesStep added.now assumed.now self.old step }
@@ -188,7 +192,7 @@ impl Engine {
     {
         self.phases[step.lit.var] = step.lit.positive;
         match self.propagator.propagate(step, steps) {
-            Propagation::Quiet => self.advance(alloc, added, assumed, cursors),
+            Propagation::Quiet => self.advance(alloc, added, assumed, cursors, decisions),
             Propagation::Conflict(clause) => {
                 cursors.back();
                 let reason = self.propagator.references[clause];
@@ -203,6 +207,7 @@ impl Engine {
         alloc: Global,
         added: &'a [Clause],
         assumed: &'a [Lit],
+        decisions: &mut Decisions,
     ) -> Result<Answer, NoMemory>
         requires engine { IsEngine added.now self.old }
         requires rest { IsEngineAtRest self.old }
@@ -216,11 +221,19 @@ impl Engine {
         self.propagator.links.lists_are_exact();
         let mut steps = Steps::start();
         let mut cursors = Cursors::start();
-        let mut found = self.advance(alloc, added, assumed, &mut cursors)?;
+        let mut found = self.advance(alloc, added, assumed, &mut cursors, decisions)?;
         loop {
             match found {
                 Found::Next(step) => {
-                    found = self.follow(alloc, added, assumed, step, &mut cursors, &mut steps)?;
+                    found = self.follow(
+                        alloc,
+                        added,
+                        assumed,
+                        step,
+                        &mut cursors,
+                        decisions,
+                        &mut steps,
+                    )?;
                 }
                 Found::Answered(answer) => return Ok(answer),
             }
@@ -235,6 +248,7 @@ impl Engine {
         added: &'a [Clause],
         empty: Option<usize>,
         assumed: &'a [Lit],
+        decisions: &mut Decisions,
     ) -> Result<Answer, NoMemory>
         requires solver { IsSolver added.now empty self.old }
         requires rest { IsEngineAtRest self.old }
@@ -249,7 +263,7 @@ impl Engine {
                 first: ClauseRef::Added(index),
                 rest: Vec::new(alloc),
             })),
-            None => self.search(alloc, added, assumed),
+            None => self.search(alloc, added, assumed, decisions),
         }
     }
 }

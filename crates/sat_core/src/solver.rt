@@ -10,6 +10,7 @@ ghost use Rattle.clause_links.specs.WatchLists.{watchers};
 ghost use Rattle.sat_core.specs.Search.{unit_clause};
 
 use crate::clause_ref::ClauseRef;
+use crate::decisions::Decisions;
 use crate::engine::Engine;
 use crate::log::render;
 use crate::opposites::units_log;
@@ -34,6 +35,7 @@ pub struct Solver {
     added: Vec<Clause>,
     empty: Option<usize>,
     engine: Engine,
+    decisions: Decisions,
 }
 
 impl Model for Solver {
@@ -69,6 +71,7 @@ impl Solver {
             added: Vec::new(alloc),
             empty: None,
             engine: Engine::new(alloc),
+            decisions: Decisions::new(alloc),
         }
     }
 
@@ -119,9 +122,12 @@ impl Solver {
         ensures learnt { FollowFrom self.old.vars self.old.clauses self.old.kept self.new.kept }
     {
         self.engine.reset();
+        self.decisions.widen(self.engine.phases.len());
         let alloc = *self.added.allocator();
         let added = self.added.as_slice();
-        let answer = self.engine.answer(alloc, added, self.empty, assumptions)?;
+        let answer = self
+            .engine
+            .answer(alloc, added, self.empty, assumptions, &mut self.decisions)?;
         match answer {
             Answer::Sat(model) => Ok(Outcome::Sat(model)),
             Answer::Unsat(last) => {

@@ -19,11 +19,11 @@ pub next_pending-requires-2-clause-vars : goal.next_pending-requires-2-clause-va
 next_pending-requires-2-clause-vars c =
     assumed_within_places c.args.database.added.now c.args.database.assumed.now c.args.self.now c.requires.search
 
-pub returns-in-Some-next_decision-clause-choice : goal.returns-in-Some-next_decision-clause-choice
-returns-in-Some-next_decision-clause-choice c =
+pub returns-in-Some-next-clause-choice : goal.returns-in-Some-next-clause-choice
+returns-in-Some-next-clause-choice c =
     let e = c.args.self.now in
     let assumed = c.args.database.assumed.now in
-    decision_next c.args.database.added.now assumed e c.requires.search c.in-Some-next_decision.lit
+    decision_next c.args.database.added.now assumed e c.requires.search c.in-Some-next.lit
     (seen_less e.propagator.trail.steps.items assumed (length assumed) c.next_pending-2.new.from (c.in_default-next_pending-2.ensures.none refl)
     (c.next_pending-2.ensures.seen c.requires.seen))
-    c.in-Some-next_decision.ensures.some
+    c.in-Some-next.ensures.some
