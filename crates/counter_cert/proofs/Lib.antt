@@ -4,3 +4,16 @@ pub mod UntilSteps
 pub mod Turns
 pub mod TraceStates
 pub mod CountedProgress
+pub mod CaseLaws
+pub mod CountLaws
+pub mod Added
+pub mod Members
+pub mod LayerModels
+pub mod Known
+pub mod EntryLaws
+pub mod Rows
+pub mod PairModels
+pub mod StartLaws
+pub mod StepModels
+pub mod CheckLaws
+pub mod Once
